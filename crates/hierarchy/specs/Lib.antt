@@ -1,0 +1,5 @@
+pub mod Meaning
+pub mod Answers
+pub mod Flat
+pub mod Runs
+pub mod Refusals

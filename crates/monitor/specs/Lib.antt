@@ -1,0 +1,3 @@
+pub mod Automata
+pub mod Product
+pub mod Piles
