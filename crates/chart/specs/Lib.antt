@@ -1,0 +1,3 @@
+pub mod Layout
+pub mod Charts
+pub mod Lawful

@@ -1,0 +1,5 @@
+pub mod Longest
+pub mod Keeps
+pub mod Allows
+pub mod Means
+pub mod Ascends
