@@ -1,3 +1,6 @@
 pub mod Automata
 pub mod Product
 pub mod Piles
+pub mod Edits
+pub mod Tables
+pub mod Replay

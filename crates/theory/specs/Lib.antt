@@ -1,2 +1,5 @@
 pub mod Hops
 pub mod OneSearch
+pub mod Tables
+pub mod Innermost
+pub mod Witnesses

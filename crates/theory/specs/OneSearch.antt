@@ -3,9 +3,9 @@
 use mathlib.Core.Path.{_≡_}
 use mathlib.Core.Bool.{Bool, true, false}
 use mathlib.Core.Logic.{_↔_}
-use Prim.Native.Nat.{ℕ, _<_}
+use Prim.Native.Nat.{ℕ, suc, _<_}
 use Rattle.hierarchy.specs.Meaning.{Meaning, Lawful}
-use Rattle.hierarchy.specs.Flat.{State, Reach, Reaches, Recurs}
+use Rattle.hierarchy.specs.Flat.{State, at, within, Reach, Reaches, Recurs}
 use Rattle.hierarchy.specs.Runs.{Endless}
 use Rattle.theory.specs.Hops.{PassMarked, HopReach, HopPass, MarkedRound, MarkedNode}
 
@@ -28,3 +28,12 @@ Recurring = (m : Meaning) → Lawful m → m .large ≡ false → Recurs m ↔ M
 -- a reachable marked state reaches itself exactly if an endless run is marked without end
 abbrev pub Running : Type 0
 Running = (m : Meaning) → Lawful m → m .large ≡ false → Recurs m ↔ Endless m
+
+-- how many boxes a state has
+abbrev pub boxes : State → ℕ
+boxes (at n) = 0
+boxes (within b s) = suc (boxes s)
+
+-- a reachable state has fewer boxes than there are structures
+abbrev pub Shallow : Type 0
+Shallow = (m : Meaning) → Lawful m → m .large ≡ false → (s : State) → Reach m 0 s → boxes s < m .structures

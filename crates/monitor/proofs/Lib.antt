@@ -1,0 +1,4 @@
+pub mod Cells
+pub mod Flags
+pub mod Products
+pub mod Settled

@@ -1,0 +1,2 @@
+pub mod OnePile
+pub mod Witnesses

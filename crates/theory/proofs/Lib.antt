@@ -1,0 +1,10 @@
+pub mod Paths
+pub mod Reaching
+pub mod Passing
+pub mod Recurring
+pub mod Numbers
+pub mod Depth
+pub mod Running
+pub mod Tables
+pub mod Innermost
+pub mod Witnesses
