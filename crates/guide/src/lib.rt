@@ -1,5 +1,7 @@
 // The guide: what a judge writes into lent memory, and what a walk reads there.
 // Records are plain numbers: memory in any state is a guide, though perhaps one that leads nowhere.
+ghost use mathlib.Core.Path.{_≡_};
+ghost use Rattle.guide.specs.Layout.{blank, blank-record};
 
 // What a search tree holds of one place.
 #[derive(Clone, Copy, PartialEq, Eq, Debug)]
@@ -16,6 +18,22 @@ pub struct Entry {
     pub seed: bool,
 }
 
+impl Entry {
+    // A place that is not reached.
+    pub fn blank() -> Entry
+        ensures { λ r. ⌜ r ≡ blank ⌝ }
+    {
+        Entry {
+            reached: false,
+            done: false,
+            depth: 0,
+            from: 0,
+            via: 0,
+            seed: false,
+        }
+    }
+}
+
 // One guide record. Row i of a guide has a record for each place of structure i, and one more row has the ring, which is
 // the cycle found.
 #[derive(Clone, Copy, PartialEq, Eq, Debug)]
@@ -25,6 +43,30 @@ pub struct GuideRecord {
     // at place 0 only: whether and how structure i is reached from structure 0, and which of its places to go to
     pub up: Entry,
     pub aim: usize,
+}
+
+impl GuideRecord {
+    // A record with which memory for a guide can be filled.
+    pub fn blank() -> GuideRecord
+        ensures { λ r. ⌜ r ≡ blank-record ⌝ }
+    {
+        GuideRecord {
+            plain: Entry::blank(),
+            marked: Entry::blank(),
+            up: Entry::blank(),
+            aim: 0,
+        }
+    }
+}
+
+pub impl Default for GuideRecord as BlankRecord {
+    ghost isDefault = { λ x. x ≡ blank-record };
+
+    fn default() -> GuideRecord
+        ensures { λ r. ⌜ r ≡ blank-record ⌝ }
+    {
+        GuideRecord::blank()
+    }
 }
 
 // The trees of a guide: all places that are reached, and those reached after a mark; the third tells how each structure

@@ -8,7 +8,7 @@ use native.Mathlib.Omega.{arith}
 use lib.Dec.{ltb}
 use lib.Arith.{digits-lt}
 use Rattle.std.proofs.shelf.Bits.{div-below, mod-below}
-use Rattle.std.proofs.shelf.Tests.{lt-ltb, le-ltb, or-left, or-right, or-from, cond-true, cond-false}
+use Rattle.std.proofs.shelf.Tests.{or-left, or-right, or-from, cond-true, cond-false}
 use Rattle.hierarchy.specs.Meaning.{Meaning, Lawful, Kind, absent, node, box}
 use Rattle.hierarchy.specs.Answers.{size-told, place-told}
 use Rattle.monitor.specs.Automata.{Automaton}
@@ -30,6 +30,12 @@ large-is m = by-large (m .large) (m .structures) (m .places) where
   by-large true s p e = refl
   by-large false s p e = absurd (let z : _≡_ {A = ℕ} 0 1 = cc in omega arith)
 
+pub fits-small : (m : Meaning) → Lawful m → (s p : ℕ) → Fits s p ≡ size-told m → (s ≤ 1024) × (p ≤ 1024)
+fits-small m law s p told =
+    let is = fits-is m s p told in
+    let sized = law .sized (is .0) in
+    (omega (arith, sized .1, is .1), omega (arith, sized .3, is .2))
+
 pub told-box : (s : Kind) (j : ℕ) → Box j ≡ place-told s → s ≡ box j
 told-box absent j e = absurd (let z : _≡_ {A = ℕ} 0 1 = cc in omega arith)
 told-box node j e = absurd (let z : _≡_ {A = ℕ} 0 1 = cc in omega arith)
@@ -43,17 +49,13 @@ module _ (m : Meaning) (a : Automaton) where
   unfolding overflows
   over-large e = or-left (m .large) _ e
 
-  pub over-structures : 1024 < m .structures * width a → overflows m a ≡ true
+  pub over-sizes : (ltb 1024 (m .structures * width a) || ltb 1024 (m .places * width a)) ≡ true → overflows m a ≡ true
   unfolding overflows
-  over-structures h = or-right (m .large) _ (or-left (ltb 1024 (m .structures * width a)) _ (lt-ltb _ _ h))
+  over-sizes e = or-right (m .large) _ e
 
-  pub over-places : 1024 < m .places * width a → overflows m a ≡ true
+  pub over-none : m .large ≡ false → (ltb 1024 (m .structures * width a) || ltb 1024 (m .places * width a)) ≡ false → overflows m a ≡ false
   unfolding overflows
-  over-places h = or-right (m .large) _ (or-right (ltb 1024 (m .structures * width a)) _ (lt-ltb _ _ h))
-
-  pub over-none : m .large ≡ false → m .structures * width a ≤ 1024 → m .places * width a ≤ 1024 → overflows m a ≡ false
-  unfolding overflows
-  over-none e h k = or-from (m .large) _ e (or-from _ _ (le-ltb 1024 _ h) (le-ltb 1024 _ k))
+  over-none e h = or-from (m .large) _ e h
 
   pub is-large : overflows m a ≡ true → product m a ≡ too-large
   is-large e = cond-true (overflows m a) too-large (spread m a) e
@@ -66,6 +68,16 @@ module _ (m : Meaning) (a : Automaton) where
 
   pub told-fits : (s p f : ℕ) → overflows m a ≡ false → s ≡ m .structures → p ≡ m .places → f ≡ width a → Fits (s * f) (p * f) ≡ size-told (product m a)
   told-fits s p f e es ep ef = rw (es, ep, ef) (sym (ap size-told (is-spread e)))
+
+  -- the sizes below, multiplied by the width, are the product's
+  pub told-above : (s p f : ℕ) → Fits s p ≡ size-told m → f ≡ width a → cond (ltb 1024 (s * f) || ltb 1024 (p * f)) TooLarge (Fits (s * f) (p * f)) ≡ size-told (product m a)
+  told-above s p f told ef = rw (is .1, is .2, ef) (by (ltb 1024 (m .structures * width a) || ltb 1024 (m .places * width a)) refl) where
+    is : (m .large ≡ false) × (s ≡ m .structures) × (p ≡ m .places)
+    is = fits-is m s p told
+
+    by : (t : Bool) → (ltb 1024 (m .structures * width a) || ltb 1024 (m .places * width a)) ≡ t → cond t TooLarge (Fits (m .structures * width a) (m .places * width a)) ≡ size-told (product m a)
+    by true e = told-large (over-sizes e)
+    by false e = told-fits _ _ _ (over-none (is .0) e) refl refl refl
 
   pub stands : (s p : ℕ) → Fits s p ≡ size-told (product m a) → (overflows m a ≡ false) × (s ≡ m .structures * width a) × (p ≡ m .places * width a)
   stands s p = by (overflows m a) where

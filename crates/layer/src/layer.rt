@@ -1,7 +1,11 @@
 // A monitor laid over a hierarchy is again a hierarchy: the product of both.
 // The monitor stays as it was when it was laid.
+ghost use mathlib.Core.Bool.{cond, _||_};
 ghost use mathlib.Core.Path.{_≡_};
+ghost use Prim.Native.Nat.{_*_, _≤_};
 ghost use denote.Ref.{now};
+ghost use lib.Dec.{ltb};
+ghost use Rattle.hierarchy.specs.declared.Size.the-variants.{TooLarge, Fits};
 ghost use Rattle.monitor.specs.Product.{product};
 ghost use Rattle.monitor.specs.Tables.{automaton-of};
 ghost use Rattle.layer.specs.Lawful.{layer-lawful};
@@ -43,11 +47,7 @@ pub impl<'a, B: Hierarchy> Hierarchy for Layer<'a, B> as LayerHierarchy {
         let Size::Fits(structures, places) = self.below.size() else {
             return Size::TooLarge;
         };
-        let f = self.monitor.width();
-        if structures * f > 1024 || places * f > 1024 {
-            return Size::TooLarge;
-        }
-        Size::Fits(structures * f, places * f)
+        sizes_above(structures, places, self.monitor.width())
     }
 
     fn place(&self, i: usize, p: usize) -> Place {
@@ -119,8 +119,8 @@ pub impl<'a, B: Hierarchy> Hierarchy for Layer<'a, B> as LayerHierarchy {
         let Size::Fits(_, _) = self.size() else {
             return false;
         };
-        let look = self.below.look(i / f, p / f);
-        self.monitor.moves(look, p, w)
+        let left = self.below.look(i / f, p / f);
+        self.monitor.moves(left, p, w)
     }
 
     fn has_leave(&self, i: usize, b: usize, e: usize, w: usize) -> bool {
@@ -133,10 +133,29 @@ pub impl<'a, B: Hierarchy> Hierarchy for Layer<'a, B> as LayerHierarchy {
         };
         match self.below.place(i / f, b / f) {
             Place::Box(j) => {
-                let look = self.below.look(j, e / f);
-                self.monitor.moves(look, e, w)
+                let left = self.below.look(j, e / f);
+                self.monitor.moves(left, e, w)
             }
             _ => false,
         }
     }
+}
+
+// The sizes below, multiplied, unless one is then more than a hierarchy may have.
+pub fn sizes_above(structures: usize, places: usize, width: usize) -> Size
+    requires { ⌜ structures ≤ 1024 ⌝ ∗ ⌜ places ≤ 1024 ⌝ ∗ ⌜ width ≤ 8 ⌝ }
+    ensures { λ r. ⌜ r ≡ cond (ltb 1024 (structures * width) || ltb 1024 (places * width)) TooLarge (Fits (structures * width) (places * width)) ⌝ }
+{
+    if exceeds(structures, width) | exceeds(places, width) {
+        return Size::TooLarge;
+    }
+    Size::Fits(structures * width, places * width)
+}
+
+// Whether a size below, multiplied, is more than a hierarchy may have.
+fn exceeds(size: usize, width: usize) -> bool
+    requires { ⌜ size ≤ 1024 ⌝ ∗ ⌜ width ≤ 8 ⌝ }
+    ensures { λ r. ⌜ r ≡ ltb 1024 (size * width) ⌝ }
+{
+    size * width > 1024
 }

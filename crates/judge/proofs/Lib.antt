@@ -1,0 +1,13 @@
+pub mod Told
+pub mod Looks
+pub mod Grow
+pub mod Turns
+pub mod Stays
+pub mod Fills
+pub mod Sows
+pub mod Reaps
+pub mod Knowing
+pub mod Rings
+pub mod Pointing
+pub mod Guides
+pub mod Judging

@@ -1,0 +1,10 @@
+use mathlib.Core.Path.{_≡_, sym, subst}
+use lib.ListN.{set}
+use Rattle.judge.specs.Tables.{Put}
+use Rattle.guide.specs.Layout.{look}
+use Rattle.judge.proofs.Looks.{puts-set}
+use Rattle.judge.proofs.table.put.Needs as need
+
+pub returns : need.returns
+returns c =
+    simp (c .with-lane .ensures) (puts-set _ _ _ _ _ _ _ (c .pre .inside) (c .position-at .ensures .is) (c .position-at .ensures .within))

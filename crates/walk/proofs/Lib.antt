@@ -1,0 +1,13 @@
+pub mod Paths
+pub mod Climbs
+pub mod Fits
+pub mod Moves
+pub mod Passes
+pub mod Endless
+pub mod Reading
+pub mod Grafts
+pub mod Safe
+pub mod Outcomes
+pub mod Sizes
+pub mod Answered
+pub mod Showing

@@ -1,0 +1,6 @@
+pub mod Levels
+pub mod Walks
+pub mod Memory
+pub mod Standing
+pub mod Steps
+pub mod Shown
