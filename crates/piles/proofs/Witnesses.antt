@@ -9,7 +9,7 @@ use Rattle.monitor.specs.Automata.{Proper, AllProper, Accepts}
 use Rattle.monitor.specs.Product.{laid}
 use Rattle.monitor.specs.Piles.{GoodRun}
 use Rattle.theory.specs.Witnesses.{pair, Tells}
-use Rattle.theory.proofs.Witnesses.{pairs-tell}
+use Rattle.theory.proofs.Witnesses.{pair-tells}
 use Rattle.theory.proofs.Running.{running}
 use Rattle.piles.specs.Witnesses.{reader, readers, PileTells, PilesTell}
 use Rattle.piles.proofs.Piles.{pile-lawful, pile-large, pile-good}
@@ -30,8 +30,8 @@ reader-accepts = record {
 }
 
 module _ (turns wins : Bool) (letter : ℕ) where
-  bottom : Tells pair turns
-  bottom = pairs-tell turns
+  bottom : Tells (pair turns) turns
+  bottom = pair-tells turns
 
   good-tells : GoodRun (pair turns) (readers letter wins) → (turns ≡ true) × (wins ≡ true) × (letter ≡ 0)
   good-tells g = (
