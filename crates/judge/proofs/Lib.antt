@@ -11,3 +11,4 @@ pub mod Rings
 pub mod Pointing
 pub mod Guides
 pub mod Judging
+pub mod Piles

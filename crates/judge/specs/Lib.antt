@@ -6,3 +6,4 @@ pub mod Seeds
 pub mod Known
 pub mod Ring
 pub mod Verdicts
+pub mod Piles

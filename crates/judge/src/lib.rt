@@ -11,6 +11,7 @@ ghost use Rattle.guide.specs.Layout.{look};
 ghost use Rattle.judge.specs.Tables.{Stands};
 ghost use Rattle.judge.specs.Rows.{Behind};
 ghost use Rattle.judge.specs.Known.{Knows, Decides};
+ghost use Rattle.judge.specs.Piles.{JudgedAsPile};
 ghost use Rattle.judge.specs.Verdicts.{judge-refusal, home-of, OnVerdict, Guides, Finds};
 
 mod known;
@@ -81,6 +82,7 @@ pub fn judge<B: Hierarchy>(h: &B, guide: &mut [GuideRecord]) -> Result<Verdict, 
     ensures unchanged { λ r. ⌜ (isErr r ≡ true → now (guide .exit) ≡ now (guide .entry)) ⌝ }
     ensures reach { λ r. ⌜ OnVerdict (λ v. Decides (v .reach) (Reaches (B·Hierarchy .meaning (now (h .entry))))) r ⌝ }
     ensures recur { λ r. ⌜ OnVerdict (λ v. Decides (isSome (v .recur)) (Recurs (B·Hierarchy .meaning (now (h .entry))))) r ⌝ }
+    ensures piles { λ r. ⌜ JudgedAsPile (B·Hierarchy .meaning (now (h .entry))) (length (now (guide .entry))) r ⌝ }
     ensures guides { λ r. ⌜ OnVerdict (λ v. Guides (B·Hierarchy .meaning (now (h .entry))) (now (guide .exit)) (v .recur)) r ⌝ }
 {
     let Size::Fits(structures, places) = h.size() else {
