@@ -1,7 +1,7 @@
 -- What a layer's answers rest on: the product's size and numbers, by what the hierarchy below tells.
 -- Assumes nothing.
-use mathlib.Core.Path.{_≡_, refl, sym, ap, subst, _∙_}
-use mathlib.Core.Bool.{Bool, true, false, cond, _&&_, _||_}
+use mathlib.Core.Path.{_≡_, refl, sym, ap}
+use mathlib.Core.Bool.{Bool, true, false, cond, _||_}
 use mathlib.Core.Logic.{_≢_}
 use Prim.Native.Nat.{ℕ, _+_, _*_, _/_, _%_, _<_, _≤_}
 use native.Mathlib.Omega.{arith}
@@ -14,7 +14,7 @@ use Rattle.hierarchy.specs.Answers.{size-told, place-told}
 use Rattle.monitor.specs.Automata.{Automaton}
 use Rattle.monitor.specs.Product.{width, overflows, too-large, spread, product}
 use Rattle.hierarchy.specs.declared.Size.the-variants.{TooLarge, Fits}
-use Rattle.hierarchy.specs.declared.Place.the-variants.{Absent, Node, Box}
+use Rattle.hierarchy.specs.declared.Place.the-variants.{Box}
 use Rattle.monitor.proofs.Products.{small}
 
 -- a size that is told to fit is the meaning's
@@ -41,7 +41,7 @@ told-box absent j e = absurd (let z : _≡_ {A = ℕ} 0 1 = cc in omega arith)
 told-box node j e = absurd (let z : _≡_ {A = ℕ} 0 1 = cc in omega arith)
 told-box (box k) j e = cc
 
-node-absent : (s : Kind) → s ≡ node → s ≢ absent
+pub node-absent : (s : Kind) → s ≡ node → s ≢ absent
 node-absent s e n = let z : _≡_ {A = ℕ} 0 1 = cc in omega arith
 
 module _ (m : Meaning) (a : Automaton) where

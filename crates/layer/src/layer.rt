@@ -15,10 +15,10 @@ use hierarchy::Place;
 use hierarchy::Size;
 use monitor::Monitor;
 
-// A question is asked below before the size is, so that most answers of no cost one question below. Each layer at least
-// doubles both sizes, so a pile that is not too large has at most ten. Over k layers the size, a place, an entry or an
-// exit cost at most k + 1 questions to the hierarchy at the bottom, a look about k * k / 2, and an edge or a leave that
-// is there about k * k * k / 6.
+// Exits, edges and leaves are asked below before the size is, so that most answers of no cost one question below. Each
+// layer at least doubles both sizes, so that at most ten stand on one another before they are too large. Over k layers a
+// size, place, entry or exit costs at most k + 1 questions to the hierarchy at the bottom, a look about k * k / 2, and an
+// edge or a leave that is there about k * k * k / 6. A pile asks less.
 #[derive_where(Clone, Copy)]
 pub struct Layer<'a, B> {
     below: &'a B,

@@ -1,6 +1,6 @@
-// Layers upon layers: that two make a pile, as a contract, and their sizes on wheels, as tests.
+// Layers upon layers: that they make piles, as contracts, and their sizes on wheels, as tests.
 // Tests stand in a crate of their own, since a crate with tests is proved twice.
-ghost use mathlib.Core.List.{[], _∷_};
+ghost use mathlib.Core.List.{[], _∷_, map};
 ghost use mathlib.Core.Path.{_≡_};
 ghost use Rattle.hierarchy.specs.Answers.{size-told};
 ghost use Rattle.monitor.specs.Product.{laid};
@@ -9,6 +9,8 @@ use hierarchy::Hierarchy;
 use hierarchy::Size;
 use layer::Layer;
 use layer::LayerHierarchy;
+use layer::Pile;
+use layer::PileHierarchy;
 use monitor::Monitor;
 
 // The size of two monitors over any hierarchy, `first` laid first.
@@ -18,6 +20,14 @@ pub fn size_of_two<B: Hierarchy>(below: &B, first: &Monitor, second: &Monitor) -
     let one = Layer::new(below, first);
     let two = Layer::new(&one, second);
     two.size()
+}
+
+// The size of any number of monitors over any hierarchy, the last one laid first.
+pub fn size_of_pile<'a, B: Hierarchy>(below: &'a B, monitors: &'a [Monitor]) -> Size
+    ensures { λ r. ⌜ r ≡ size-told (laid (map automaton-of (now (monitors .entry))) (B·Hierarchy .meaning (now (below .entry)))) ⌝ }
+{
+    let pile = Pile::new(below, monitors);
+    pile.size()
 }
 
 #[cfg(test)]
@@ -60,6 +70,16 @@ mod tests {
             size_of_two(&wheel, &monitor, &monitor),
             Size::Fits(1024, 1024),
         )
+    }
+
+    #[test]
+    fn a_pile_is_as_large_as_its_layers() -> Result<(), Fail> {
+        let monitor = four_states()?;
+        let wheel = Wheel::new(&[14; 16])?;
+        check_eq(size_of_pile(&wheel, &[]), Size::Fits(16, 16))?;
+        check_eq(size_of_pile(&wheel, &[monitor]), Size::Fits(128, 128))?;
+        check_eq(size_of_pile(&wheel, &[monitor; 2]), Size::Fits(1024, 1024))?;
+        check_eq(size_of_pile(&wheel, &[monitor; 3]), Size::TooLarge)
     }
 
     #[test]

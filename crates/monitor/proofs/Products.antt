@@ -1,19 +1,17 @@
 -- The product of a lawful hierarchy with an automaton of at least one state is lawful, and so is each pile.
 -- Assumes nothing.
 use mathlib.Core.Path.{_≡_, refl, sym, ap, subst, _∙_}
-use mathlib.Core.Bool.{Bool, true, false, cond, _&&_, _||_}
+use mathlib.Core.Bool.{Bool, true, false, cond}
 use mathlib.Core.List.{List, [], _∷_}
-use mathlib.Core.Logic.{_≢_}
 use Prim.Native.Nat.{ℕ, _+_, _*_, _/_, _%_, _<_, _≤_}
 use native.Mathlib.Omega.{arith}
-use native.Mathlib.Nat.{mul-le-mul-right}
-use lib.Dec.{ltb, eqb}
-use lib.Arith.{digits-div, digits-mod, digits-lt}
+use lib.Dec.{ltb}
+use lib.Arith.{digits-div, digits-lt}
 use Rattle.std.proofs.shelf.Bits.{div-add-mod', div-below, le-div, mod-below, mul-le}
-use Rattle.std.proofs.shelf.Tests.{ltb-true, ltb-false, lt-ltb, le-ltb, and-parts, or-parts, cond-true, cond-false, cases-bool, both-ways}
+use Rattle.std.proofs.shelf.Tests.{ltb-false, lt-ltb, le-ltb, and-parts, or-parts, cond-true, cond-false, both-ways}
 use Rattle.hierarchy.specs.Meaning.{Meaning, Lawful, Kind, absent, node, box}
-use Rattle.monitor.specs.Automata.{Automaton, Proper, AllProper}
-use Rattle.monitor.specs.Product.{laid, width, overflows, too-large, spread, product, kind-above, is-node, at-inner, marks, moves}
+use Rattle.monitor.specs.Automata.{Automaton, AllProper}
+use Rattle.monitor.specs.Product.{laid, width, overflows, too-large, spread, product, kind-above, is-node}
 
 pub too-large-lawful : Lawful too-large
 too-large-lawful = record {

@@ -1,18 +1,13 @@
 -- What an edit gives, by whether one of its tests holds.
 -- Assumes nothing.
-use mathlib.Core.Path.{_≡_, refl, sym, ap, _∙_}
-use mathlib.Core.Bool.{Bool, true, false, cond, not, _&&_, _||_}
-use Prim.Native.Nat.{ℕ, _<_, _≤_}
-use native.Mathlib.Omega.{arith}
-use lib.Dec.{ltb, eqb}
-use Rattle.std.specs.declared.option.Option.{Option}
-use Rattle.std.specs.declared.option.Option.the-variants.{Some, None}
-use Rattle.std.specs.declared.result.Result.{Result}
+use mathlib.Core.Path.{_≡_}
+use mathlib.Core.Bool.{true, false}
+use Prim.Native.Nat.{ℕ, _<_}
 use Rattle.std.specs.declared.result.Result.the-variants.{Ok, Err}
 use Rattle.std.proofs.shelf.Tests.{lt-ltb}
 use Rattle.hierarchy.specs.declared.refusal.Refusal.the-variants.{AlreadyThere}
 use Rattle.monitor.specs.Automata.{Automaton}
-use Rattle.monitor.specs.Edits.{Outcome, settled, first, state-edit, with-state, accept-edit, accept-refusals, with-accepting}
+use Rattle.monitor.specs.Edits.{state-edit, with-state, accept-edit, with-accepting}
 
 pub state-goes : (a : Automaton) → a .states < 4 → state-edit a ≡ record { automaton = with-state a; answer = Ok (a .states) }
 state-goes a h = rw (lt-ltb (a .states) 4 h)

@@ -1,11 +1,11 @@
 -- The automaton that a monitor's tables hold; it has 1 to 4 states.
 -- Assumes nothing.
 use mathlib.Core.Bool.{Bool, false, _&&_}
-use mathlib.Core.List.{List}
+use mathlib.Core.List.{List, [], _∷_, map}
 use Prim.Native.Nat.{ℕ, _+_, _*_}
 use lib.Dec.{ltb}
 use lib.ListN.{getD}
-use Rattle.monitor.specs.Automata.{Automaton, Proper}
+use Rattle.monitor.specs.Automata.{Automaton, Proper, AllProper}
 use Rattle.monitor.specs.declared.Monitor.{Monitor}
 use Rattle.monitor.specs.declared.steps.Steps.{Steps}
 
@@ -21,3 +21,7 @@ automaton-of m = record { states = m .states; follows = steps-of (m .steps); acc
 
 pub monitor-proper : (m : Monitor) → Proper (automaton-of m)
 monitor-proper m = record { some = m .some; few = m .few }
+
+pub monitors-proper : (monitors : List Monitor) → AllProper (map automaton-of monitors)
+monitors-proper [] = tt
+monitors-proper (m ∷ rest) = (monitor-proper m, monitors-proper rest)

@@ -1,4 +1,5 @@
-// The edits of a monitor, which change it in place. A refused edit alters nothing.
+// The edits of a monitor, which change it in place.
+// A refused edit alters nothing; of several refusals the least number is given.
 ghost use mathlib.Core.Bool.{false};
 ghost use mathlib.Core.Path.{_≡_};
 ghost use Rattle.std.specs.Results.{isOk};

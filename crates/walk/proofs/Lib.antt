@@ -11,3 +11,4 @@ pub mod Outcomes
 pub mod Sizes
 pub mod Answered
 pub mod Showing
+pub mod Longer

@@ -3,4 +3,5 @@ pub mod Walks
 pub mod Memory
 pub mod Standing
 pub mod Steps
+pub mod Journeys
 pub mod Shown

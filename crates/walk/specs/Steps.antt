@@ -21,7 +21,7 @@ use Rattle.guide.specs.Layout.{guide-of}
 use Rattle.walk.specs.declared.frame.Frame.{Frame}
 use Rattle.walk.specs.declared.read.Plan.{Plan}
 use Rattle.walk.specs.declared.steps.Walk.{Walk}
-use Rattle.walk.specs.Walks.{Stack, shown, walk}
+use Rattle.walk.specs.Walks.{Stack, shown, advance, walk}
 use Rattle.walk.specs.Standing.{stack-of}
 
 -- the guide that memory is for this hierarchy, with the ring in the structure `home`
@@ -54,26 +54,24 @@ abbrev pub plan-or : Meaning → ℕ → Option Refusal → Result Plan Refusal
 plan-or m home (Some k) = Err k
 plan-or m home None = Ok (record { structures = m .structures; places = m .places; home = home })
 
--- a step is refused for what is amiss, and else only because it finds no transition
-abbrev pub Answers : Option Refusal → Result (Unit {0}) Refusal → Type 0
+-- a call is refused for what is amiss, and else only because it finds no transition
+abbrev pub Answers : {X : Type 0} → Option Refusal → Result X Refusal → Type 0
 Answers (Some k) r = r ≡ Err k
-Answers None (Ok u) = Unit {0}
+Answers None (Ok x) = Unit {0}
 Answers None (Err k) = k ≡ NoTransition
 
--- with nothing amiss, a walk that has followed a good guide is not refused
+-- nothing is altered
+abbrev pub Same : Walk → List Frame → Walk → List Frame → Type 0
+Same w old v new = (v ≡ w) × (new ≡ old)
+
+-- the walk has made n steps along the guide
+abbrev pub OnWay : Meaning → List GuideRecord → ℕ → Walk → List Frame → Type 0
+OnWay m xs n w fs = levels m (guide-for m xs w) w fs ≡ walk m (guide-for m xs w) n
+
+-- a step along the guide
+abbrev pub Follows : Meaning → Guide → Walk → List Frame → Walk → List Frame → Type 0
+Follows m g w old v new = levels m g v new ≡ advance m g 0 (levels m g w old)
+
+-- with nothing amiss, a walk that is on its way along a good guide is not refused
 abbrev pub Accepts : Meaning → List GuideRecord → Walk → List Frame → Result (Unit {0}) Refusal → Type 0
-Accepts m xs w fs r =
-    (n : ℕ) → Good m (guide-for m xs w) → levels m (guide-for m xs w) w fs ≡ walk m (guide-for m xs w) n → lacking m (length xs) (length fs) ≡ None → isOk r ≡ true
-
--- n steps further by the guide
-abbrev pub StepsOn : Meaning → Guide → ℕ → Walk → List Frame → Walk → List Frame → Type 0
-StepsOn m g n w old v new = (k : ℕ) → levels m g w old ≡ walk m g k → levels m g v new ≡ walk m g (k + n)
-
--- what the walk shows after n steps
-abbrev pub state-after : Meaning → List GuideRecord → ℕ → ℕ → State
-state-after m xs home n = shown (walk m (guide-home m xs home) n)
-
--- what holds of the walk, if there is one
-abbrev pub OnWalk : (Walk → Type 0) → Result Walk Refusal → Type 0
-OnWalk P (Ok w) = P w
-OnWalk P (Err k) = Unit {0}
+Accepts m xs w fs r = (n : ℕ) → Good m (guide-for m xs w) → OnWay m xs n w fs → lacking m (length xs) (length fs) ≡ None → isOk r ≡ true

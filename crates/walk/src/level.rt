@@ -2,9 +2,8 @@
 // All of it is read from the guide; nothing here is asked whether it is a transition.
 ghost use mathlib.Core.Path.{_≡_};
 ghost use Prim.Native.Nat.{_+_, _≤_, _<_};
-ghost use Rattle.guide.specs.Trees.{Vertex};
 ghost use Rattle.walk.specs.Levels.{tree-of, is-pass, less as lessened, goal-of, hop as hopped, turned as level-turned, lead-level, pass-level, inner as inner-level};
-ghost use Rattle.walk.specs.Memory.{guide-by, spot-told, tree-told, Within};
+ghost use Rattle.walk.specs.Memory.{guide-by, spot-told, tree-told, goes-round, Within};
 use crate::frame::Frame;
 use crate::frame::Way;
 use crate::read;
@@ -70,7 +69,7 @@ pub fn hop(guide: &[GuideRecord], plan: Plan, structure: usize, level: Frame) ->
 
 // Whether a level that has come to its goal goes round the ring from there.
 fn goes_round(plan: Plan, structure: usize, way: Way) -> bool
-    ensures { λ r. ⌜ r ≡ Rattle.walk.specs.Memory.goes-round plan structure way ⌝ }
+    ensures { λ r. ⌜ r ≡ goes-round plan structure way ⌝ }
 {
     match way {
         Way::Pass => false,
@@ -86,20 +85,12 @@ pub fn turned(guide: &[GuideRecord], plan: Plan, structure: usize, level: Frame)
     ensures { λ r. ⌜ r ≡ level-turned (guide-by (now (guide .entry)) plan) structure level ⌝ }
 {
     if level.left == 0 && goes_round(plan, structure, level.way) {
-        let entry = read::entry_of(
-            guide,
-            plan,
-            structure,
-            Spot {
-                tree: Tree::Ring,
-                place: level.goal,
-            },
-        );
+        let left = read::depth_of(guide, plan, structure, Tree::Ring, level.goal);
         Frame {
             place: level.place,
             way: Way::Ring,
             goal: level.goal,
-            left: entry.depth,
+            left,
         }
     } else {
         level
@@ -112,15 +103,7 @@ pub fn lead<B: Hierarchy>(h: &B, guide: &[GuideRecord], plan: Plan, structure: u
     ensures { λ r. ⌜ r ≡ lead-level (B·Hierarchy .meaning (now (h .entry))) (guide-by (now (guide .entry)) plan) structure ⌝ }
 {
     let goal = read::aim_of(guide, plan, structure);
-    let left = read::entry_of(
-        guide,
-        plan,
-        structure,
-        Spot {
-            tree: Tree::Plain,
-            place: goal,
-        },
-    ).depth;
+    let left = read::depth_of(guide, plan, structure, Tree::Plain, goal);
     turned(
         guide,
         plan,
@@ -150,15 +133,7 @@ fn pass<B: Hierarchy>(
     } else {
         Way::Pass
     };
-    let left = read::entry_of(
-        guide,
-        plan,
-        structure,
-        Spot {
-            tree: tree_of(way),
-            place: next.via,
-        },
-    ).depth;
+    let left = read::depth_of(guide, plan, structure, tree_of(way), next.via);
     Frame {
         place: h.entry(structure),
         way,

@@ -11,8 +11,8 @@ pub mod steps;
 pub use frame::Frame;
 pub use frame::Way;
 pub use steps::Walk;
+pub use steps::journey::walk_on;
 pub use steps::start;
-pub use steps::walk_on;
 
 // The walk by a good guide is an endless run, and it meets marked states without end.
 pub fn walking() -> u8

@@ -5,7 +5,7 @@ ghost use Prim.Native.Nat.{_+_, _≤_};
 ghost use lib.ListN.{getD};
 ghost use Rattle.guide.specs.Trees.{up, entry-at};
 ghost use Rattle.guide.specs.Layout.{look as table-look, lane-of, blank as blank-entry, blank-record};
-ghost use Rattle.walk.specs.Memory.{guide-by, spot-told, Within};
+ghost use Rattle.walk.specs.Memory.{guide-by, spot-told, tree-told, Within};
 use guide::Entry;
 use guide::GuideRecord;
 use guide::Lane;
@@ -98,6 +98,20 @@ pub fn entry_of(guide: &[GuideRecord], plan: Plan, structure: usize, spot: Spot)
         Tree::Marked => look(guide, plan.places, Lane::Marked, structure, spot.place),
         Tree::Ring => look(guide, plan.places, Lane::Plain, plan.structures, spot.place),
     }
+}
+
+// How many tree edges lead from a place up to the root.
+pub fn depth_of(
+    guide: &[GuideRecord],
+    plan: Plan,
+    structure: usize,
+    tree: Tree,
+    place: usize,
+) -> usize
+    requires { ⌜ Within plan structure ⌝ }
+    ensures { λ r. ⌜ r ≡ guide-by (now (guide .entry)) plan .tree (tree-told tree) structure place .depth ⌝ }
+{
+    entry_of(guide, plan, structure, Spot { tree, place }).depth
 }
 
 // The place of the structure to go to.

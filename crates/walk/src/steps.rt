@@ -3,19 +3,18 @@
 ghost use mathlib.Core.Path.{_≡_};
 ghost use mathlib.Core.Bool.{true, false};
 ghost use mathlib.Core.List.{List};
-ghost use Prim.Native.Nat.{ℕ, _+_, _≤_, _<_};
 ghost use lib.ListN.{length};
 ghost use Rattle.std.specs.Results.{isOk};
-ghost use Rattle.std.specs.declared.option.Option.the-variants.{None};
 ghost use Rattle.hierarchy.specs.Flat.{Step, initial};
 ghost use Rattle.hierarchy.specs.Meaning.{Meaning};
-ghost use Rattle.guide.specs.Trees.{Guide, Good};
+ghost use Rattle.guide.specs.Trees.{Guide};
 ghost use Rattle.judge.specs.Verdicts.{home-of};
 ghost use Rattle.walk.specs.Memory.{guide-by};
 ghost use Rattle.walk.specs.Standing.{Planned, stack-of};
-ghost use Rattle.walk.specs.Steps.{guide-for, levels, state-shown, lacking, plan-or, Answers, Accepts, StepsOn, guide-home, ring-home, state-after, OnWalk};
-ghost use Rattle.walk.specs.Walks.{advance, walk, ShowsRun};
+ghost use Rattle.walk.specs.Steps.{guide-for, levels, state-shown, lacking, plan-or, Answers, Same, Follows, Accepts, ring-home};
+ghost use Rattle.walk.specs.Walks.{walk};
 
+pub mod journey;
 mod show;
 
 use crate::frame::Frame;
@@ -53,24 +52,6 @@ pub fn start(found: FoundMark) -> Walk
             last: Frame::blank(),
         },
     }
-}
-
-// Starts a walk and makes `n` steps.
-pub fn walk_on<B: Hierarchy>(
-    found: FoundMark,
-    h: &B,
-    guide: &[GuideRecord],
-    frames: &mut [Frame],
-    n: u64,
-) -> Result<Walk, Refusal>
-    ensures shown { λ r. ⌜ OnWalk (λ w. state-shown (B·Hierarchy .meaning (now (h .entry))) w (now (frames .exit)) ≡ state-after (B·Hierarchy .meaning (now (h .entry))) (now (guide .entry)) (home-of found) n) r ⌝ }
-    ensures levels { λ r. ⌜ OnWalk (λ w. levels (B·Hierarchy .meaning (now (h .entry))) (guide-home (B·Hierarchy .meaning (now (h .entry))) (now (guide .entry)) (home-of found)) w (now (frames .exit)) ≡ walk (B·Hierarchy .meaning (now (h .entry))) (guide-home (B·Hierarchy .meaning (now (h .entry))) (now (guide .entry)) (home-of found)) n) r ⌝ }
-    ensures accepted { λ r. ⌜ (Good (B·Hierarchy .meaning (now (h .entry))) (guide-home (B·Hierarchy .meaning (now (h .entry))) (now (guide .entry)) (home-of found)) → lacking (B·Hierarchy .meaning (now (h .entry))) (length (now (guide .entry))) (length (now (frames .entry))) ≡ None → isOk r ≡ true) ⌝ }
-    ensures endless { λ r. ⌜ (Good (B·Hierarchy .meaning (now (h .entry))) (guide-home (B·Hierarchy .meaning (now (h .entry))) (now (guide .entry)) (home-of found)) → B·Hierarchy .meaning (now (h .entry)) .large ≡ false → ShowsRun (B·Hierarchy .meaning (now (h .entry))) (guide-home (B·Hierarchy .meaning (now (h .entry))) (now (guide .entry)) (home-of found))) ⌝ }
-{
-    let mut walk = start(found);
-    walk.step_on(h, guide, frames, n)?;
-    Ok(walk)
 }
 
 // The size of the hierarchy, if it can be walked with so many guide records and frames.
@@ -117,9 +98,9 @@ impl Walk {
         frames: &mut [Frame],
     ) -> Result<(), Refusal>
         ensures answer { λ r. ⌜ Answers (lacking (B·Hierarchy .meaning (now (h .entry))) (length (now (guide .entry))) (length (now (frames .entry)))) r ⌝ }
-        ensures unaltered { λ r. ⌜ (isOk r ≡ false → (now (self .exit) ≡ now (self .entry)) × (now (frames .exit) ≡ now (frames .entry))) ⌝ }
+        ensures unaltered { λ r. ⌜ (isOk r ≡ false → Same (now (self .entry)) (now (frames .entry)) (now (self .exit)) (now (frames .exit))) ⌝ }
         ensures transition { λ r. ⌜ (isOk r ≡ true → Step (B·Hierarchy .meaning (now (h .entry))) 0 (state-shown (B·Hierarchy .meaning (now (h .entry))) (now (self .entry)) (now (frames .entry))) (state-shown (B·Hierarchy .meaning (now (h .entry))) (now (self .exit)) (now (frames .exit)))) ⌝ }
-        ensures follows { λ r. ⌜ (isOk r ≡ true → levels (B·Hierarchy .meaning (now (h .entry))) (guide-for (B·Hierarchy .meaning (now (h .entry))) (now (guide .entry)) (now (self .entry))) (now (self .exit)) (now (frames .exit)) ≡ advance (B·Hierarchy .meaning (now (h .entry))) (guide-for (B·Hierarchy .meaning (now (h .entry))) (now (guide .entry)) (now (self .entry))) 0 (levels (B·Hierarchy .meaning (now (h .entry))) (guide-for (B·Hierarchy .meaning (now (h .entry))) (now (guide .entry)) (now (self .entry))) (now (self .entry)) (now (frames .entry)))) ⌝ }
+        ensures follows { λ r. ⌜ (isOk r ≡ true → Follows (B·Hierarchy .meaning (now (h .entry))) (guide-for (B·Hierarchy .meaning (now (h .entry))) (now (guide .entry)) (now (self .entry))) (now (self .entry)) (now (frames .entry)) (now (self .exit)) (now (frames .exit))) ⌝ }
         ensures accepted { λ r. ⌜ Accepts (B·Hierarchy .meaning (now (h .entry))) (now (guide .entry)) (now (self .entry)) (now (frames .entry)) r ⌝ }
         ensures home { λ _. ⌜ now (self .exit) .home ≡ now (self .entry) .home ⌝ }
     {
@@ -133,23 +114,5 @@ impl Walk {
             }
             None => Err(Refusal::NoTransition),
         }
-    }
-
-    // Makes `n` steps.
-    pub fn step_on<B: Hierarchy>(
-        &mut self,
-        h: &B,
-        guide: &[GuideRecord],
-        frames: &mut [Frame],
-        n: u64,
-    ) -> Result<(), Refusal>
-        ensures there { λ r. ⌜ (isOk r ≡ true → StepsOn (B·Hierarchy .meaning (now (h .entry))) (guide-for (B·Hierarchy .meaning (now (h .entry))) (now (guide .entry)) (now (self .entry))) n (now (self .entry)) (now (frames .entry)) (now (self .exit)) (now (frames .exit))) ⌝ }
-        ensures accepted { λ r. ⌜ Accepts (B·Hierarchy .meaning (now (h .entry))) (now (guide .entry)) (now (self .entry)) (now (frames .entry)) r ⌝ }
-        ensures home { λ _. ⌜ now (self .exit) .home ≡ now (self .entry) .home ⌝ }
-    {
-        for i in 0..n {
-            self.step(h, guide, frames)?;
-        }
-        Ok(())
     }
 }

@@ -1,7 +1,7 @@
 -- Below the levels the sizes that count are the first of the array; beyond them there are none.
 use mathlib.Core.Path.{sym}
 use native.Mathlib.Omega.{arith}
-use lib.ListN.{take, length}
+use lib.ListN.{take}
 use Rattle.std.proofs.shelf.Lists.{getD-take, getD-past, length-take-le}
 use Rattle.wheel.specs.Made.{sizes-of}
 use Rattle.wheel.specs.Shapes.{size-below-largest}

@@ -1,9 +1,9 @@
 -- One size more is decided.
-use mathlib.Core.Path.{_≡_, refl, sym, ap, _∙_}
-use mathlib.Core.Bool.{true, _&&_}
+use mathlib.Core.Path.{_≡_, sym, _∙_}
+use mathlib.Core.Bool.{true}
 use lib.ListN.{length}
 use Rattle.std.proofs.shelf.Lists.{at-drop-all}
-use Rattle.std.proofs.shelf.Tests.{and-left, and-right, and-from}
+use Rattle.std.proofs.shelf.Tests.{and-right, and-from}
 use Rattle.wheel.specs.Meaning.{all-sized}
 use Rattle.wheel.proofs.Sizes.{good-count, one-bad, one-good}
 use Rattle.wheel.proofs.made.are_right.Needs as need

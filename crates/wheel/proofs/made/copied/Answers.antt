@@ -3,7 +3,7 @@ use mathlib.Core.Path.{_≡_, sym, ap, _∙_}
 use Prim.Native.Nat.{_+_, _<_}
 use mathlib.Core.List.{_++_, _∷_, []}
 use native.Mathlib.Omega.{arith}
-use lib.ListN.{take, length, set, getD}
+use lib.ListN.{length, getD}
 use Rattle.std.proofs.shelf.Lists.{take-more, take-more-set, take-all, length-set}
 use Rattle.wheel.proofs.made.copied.Needs as need
 

@@ -6,7 +6,6 @@ use Rattle.layer.proofs.Layers.{fits-is}
 use Rattle.monitor.proofs.Products.{product-lawful}
 use Prim.Native.Nat.{_*_, _+_, _%_, _<_}
 use native.Mathlib.Omega.{arith}
-use Rattle.monitor.specs.Product.{width}
 use Rattle.layer.proofs.Layers.{entry-number}
 use Rattle.monitor.specs.Tables.{automaton-of}
 use Rattle.layer.proofs.layer.LayerHierarchy.entry.Needs as need

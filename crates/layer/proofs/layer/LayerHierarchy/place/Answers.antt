@@ -1,7 +1,6 @@
 -- A box's number fits, since it stays below 1,024.
 use Prim.Native.Nat.{_*_, _+_, _%_, _<_}
 use native.Mathlib.Omega.{arith}
-use Rattle.monitor.specs.Product.{width}
 use Rattle.layer.proofs.Layers.{box-number}
 use Rattle.monitor.specs.Tables.{automaton-of}
 use Rattle.layer.proofs.layer.LayerHierarchy.place.Needs as need

@@ -1,5 +1,4 @@
 -- The answer is the definition, test by test.
-use borrow.Author.Needs.{needs}
 use native.Mathlib.Omega.{arith}
 use Rattle.std.proofs.shelf.Ways.{tells}
 use Rattle.monitor.specs.Tables.{steps-of}

@@ -19,7 +19,7 @@ returns-in-Some g c =
     let q = planned-is m (c .args .self .now .home) k (c .in-Continue-plan .plan) e in
     let M = c .in-Some .ensures tt in
     record {
-      answer = subst (λ x. Answers x (Ok tt)) (sym (planned-lacks m (c .args .self .now .home) k (c .in-Continue-plan .plan) e)) tt;
+      answer = subst (λ x. Answers {X = Unit {0}} x (Ok tt)) (sym (planned-lacks m (c .args .self .now .home) k (c .in-Continue-plan .plan) e)) tt;
       unaltered = λ z. absurd (both-ways true z refl);
       transition = λ z. step-shows m (c .args .guide .now) (c .args .self .now) (c .in-Continue-plan .plan) q (c .args .frames .now) (c .standing-stand .result) (c .standing-stand .ensures)
           (c .moved .last .frames) (c .in-Some .next) M;
@@ -37,7 +37,7 @@ returns-in-None g c =
     let q = planned-is m (c .args .self .now .home) k (c .in-Continue-plan .plan) e in
     let r = c .in-None .ensures tt in
     record {
-      answer = subst (λ x. Answers x (Err NoTransition)) (sym (planned-lacks m (c .args .self .now .home) k (c .in-Continue-plan .plan) e)) refl;
+      answer = subst (λ x. Answers {X = Unit {0}} x (Err NoTransition)) (sym (planned-lacks m (c .args .self .now .home) k (c .in-Continue-plan .plan) e)) refl;
       unaltered = λ z. (refl, r .0);
       transition = λ z. absurd (both-ways false refl z);
       follows = λ z. absurd (both-ways false refl z);
