@@ -14,6 +14,8 @@ mod edits;
 mod places;
 mod replay;
 
+pub use asks::ChartHierarchy;
+
 // The first `count` rows count; `most` is the length of the longest.
 #[derive(Drop)]
 pub struct Chart {

@@ -4,3 +4,4 @@ pub mod chart;
 mod row;
 
 pub use chart::Chart;
+pub use chart::ChartHierarchy;

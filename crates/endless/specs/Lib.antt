@@ -1,1 +1,2 @@
 pub mod Judgments
+pub mod Drawings

@@ -9,6 +9,11 @@ ghost use Rattle.hierarchy.specs.Flat.{Reaches, Recurs};
 ghost use Rattle.judge.specs.Known.{Decides};
 ghost use Rattle.walk.specs.Steps.{lacking};
 ghost use Rattle.endless.specs.Judgments.{OnJudgment, WalkIs, WalksOn, JudgedPiles};
+
+mod drawn;
+
+pub use drawn::judge_drawing;
+pub use drawn::judge_under;
 use guide::GuideRecord;
 use hierarchy::Hierarchy;
 use hierarchy::Refusal;
@@ -48,10 +53,16 @@ pub fn judge_and_walk<B: Hierarchy>(
     }
     let verdict = judge(h, guide)?;
     match verdict.recur {
-        None => Ok(Judgment { reach: verdict.reach, walk: None }),
+        None => Ok(Judgment {
+            reach: verdict.reach,
+            walk: None,
+        }),
         Some(found) => {
             let walk = walk_on(found, h, guide, frames, n)?;
-            Ok(Judgment { reach: verdict.reach, walk: Some(walk) })
+            Ok(Judgment {
+                reach: verdict.reach,
+                walk: Some(walk),
+            })
         }
     }
 }

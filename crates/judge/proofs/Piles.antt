@@ -39,28 +39,28 @@ fits-unrefused true n need e = let z : _≡_ {A = ℕ} 0 1 = cc in absurd (omega
 fits-unrefused false n need e = refl
 
 pub pile-refused : (b : Meaning) → Lawful b → (automata : List Automaton) → AllProper automata → (n : ℕ)
-  → judge-refusal (laid automata b) n ≡ pile-refusal b automata n
+    → judge-refusal (laid automata b) n ≡ pile-refusal b automata n
 pile-refused b l automata p n =
-  let m = laid automata b in
-  refusal-same (m .large) n (guide-need m) (pile-need b automata)
+    let m = laid automata b in
+    refusal-same (m .large) n (guide-need m) (pile-need b automata)
     (λ e. let s = pile-sizes b automata e in ap₂ (λ x y. (x + 1) * y) (s .0) (s .1))
-  ∙ ap (λ (large : Bool). refusal-by large n (pile-need b automata)) (pile-large b l automata p)
+    ∙ ap (λ (large : Bool). refusal-by large n (pile-need b automata)) (pile-large b l automata p)
 
 module _ (b : Meaning) (l : Lawful b) (automata : List Automaton) (p : AllProper automata) (n : ℕ) where
   recurs-by-runs : (r : Result Verdict Refusal) → errPart r ≡ judge-refusal (laid automata b) n
-    → OnVerdict (λ v. Decides (isSome (v .recur)) (Recurs (laid automata b))) r
-    → OnVerdict (λ v. Decides (isSome (v .recur)) (GoodRun b automata)) r
+      → OnVerdict (λ v. Decides (isSome (v .recur)) (Recurs (laid automata b))) r
+      → OnVerdict (λ v. Decides (isSome (v .recur)) (GoodRun b automata)) r
   recurs-by-runs (Err e) h d = tt
   recurs-by-runs (Ok v) h d =
-    let m = laid automata b in
-    let f : m .large ≡ false = fits-unrefused (m .large) n (guide-need m) (sym h) in
-    let g = pile-good b l automata p f in
-    record { sure = λ e. g .0 (d .sure e); never = λ e x. d .never e (g .1 x) }
+      let m = laid automata b in
+      let f : m .large ≡ false = fits-unrefused (m .large) n (guide-need m) (sym h) in
+      let g = pile-good b l automata p f in
+      record { sure = λ e. g .0 (d .sure e); never = λ e x. d .never e (g .1 x) }
 
 pub judged-as-pile : (m : Meaning) (n : ℕ) (r : Result Verdict Refusal) → errPart r ≡ judge-refusal m n
-  → OnVerdict (λ v. Decides (isSome (v .recur)) (Recurs m)) r → JudgedAsPile m n r
+    → OnVerdict (λ v. Decides (isSome (v .recur)) (Recurs m)) r → JudgedAsPile m n r
 judged-as-pile m n r h d b automata l p e =
-  let h′ : errPart r ≡ judge-refusal (laid automata b) n = subst (λ (k : Meaning). errPart r ≡ judge-refusal k n) e h in
-  let d′ : OnVerdict (λ v. Decides (isSome (v .recur)) (Recurs (laid automata b))) r
+    let h′ : errPart r ≡ judge-refusal (laid automata b) n = subst (λ (k : Meaning). errPart r ≡ judge-refusal k n) e h in
+    let d′ : OnVerdict (λ v. Decides (isSome (v .recur)) (Recurs (laid automata b))) r
     = subst (λ (k : Meaning). OnVerdict (λ v. Decides (isSome (v .recur)) (Recurs k)) r) e d in
-  record { refused = h′ ∙ pile-refused b l automata p n; recur = recurs-by-runs b l automata p n r h′ d′ }
+    record { refused = h′ ∙ pile-refused b l automata p n; recur = recurs-by-runs b l automata p n r h′ d′ }

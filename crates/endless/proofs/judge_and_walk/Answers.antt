@@ -26,10 +26,10 @@ returns-in-Break-walk g c =
     let m = g .B·Hierarchy .meaning (c .args .h .now) in
     let v = c .in-Continue-verdict .ensures tt in
     let good : Good m (guide-home m (c .judge .last .guide) (home-of (c .in-Some-recur .found)))
-      = subst (λ (o : Option FoundMark). Guides m (c .judge .last .guide) o) (c .in-Some-recur .is) (v .guides) in
+    = subst (λ (o : Option FoundMark). Guides m (c .judge .last .guide) o) (c .in-Some-recur .is) (v .guides) in
     let k : length (c .judge .last .guide) ≡ length (c .args .guide .now) = search needs in
     let enough : lacking m (length (c .judge .last .guide)) (length (c .args .frames .now)) ≡ None
-      = ap (λ n. lacking m n (length (c .args .frames .now))) k ∙ sym (c .in-rest .ensures tt) in
+    = ap (λ n. lacking m n (length (c .args .frames .now))) k ∙ sym (c .in-rest .ensures tt) in
     absurd (accepted-not-err (c .walk-on .result) (c .in-Break-walk .field-0 .0) (c .walk-on .ensures .accepted good enough) (c .in-Break-walk .was tt))
 
 pub returns-in-None : need.returns-in-None
@@ -47,7 +47,7 @@ returns-in-Continue-walk g c =
     let refused = c .in-rest .ensures tt in
     let recur = subst (λ (o : Option FoundMark). Decides (isSome o) (Recurs m)) (c .in-Some-recur .is) (v .recur) in
     let good : Good m (guide-home m (c .judge .last .guide) (home-of (c .in-Some-recur .found)))
-      = subst (λ (o : Option FoundMark). Guides m (c .judge .last .guide) o) (c .in-Some-recur .is) (v .guides) in
+    = subst (λ (o : Option FoundMark). Guides m (c .judge .last .guide) o) (c .in-Some-recur .is) (v .guides) in
     let w = c .in-Continue-walk .ensures tt in
     record {
       refused = refused;
@@ -57,5 +57,5 @@ returns-in-Continue-walk g c =
       piles = judged-piles m _ _ _ refused recur;
       idle = λ e. absurd (true≢false e);
       endless = walks-on m (c .judge .last .guide) (c .walk-on .last .frames) _ (c .args .n) (c .in-Continue-walk .walk) good
-        (w .endless good (lacks-none-fits m _ _ (sym refused))) (w .home) (w .shown) (w .way);
+          (w .endless good (lacks-none-fits m _ _ (sym refused))) (w .home) (w .shown) (w .way);
     }

@@ -21,7 +21,7 @@ use judge::FoundMark;
 
 impl Walk {
     // Makes `n` steps.
-    pub fn step_on<B: Hierarchy>(
+    pub(crate) fn step_on<B: Hierarchy>(
         &mut self,
         h: &B,
         guide: &[GuideRecord],
