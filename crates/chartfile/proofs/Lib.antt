@@ -1,2 +1,4 @@
 pub mod Fronts
 pub mod Progress
+pub mod OneWay
+pub mod Storing

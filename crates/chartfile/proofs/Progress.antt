@@ -12,6 +12,7 @@ use Rattle.std.specs.declared.result.Result.{Result}
 use Rattle.std.specs.declared.result.Result.the-variants.{Ok, Err}
 use Rattle.hierarchy.specs.declared.refusal.Refusal.{Refusal}
 use Rattle.hierarchy.specs.declared.refusal.Refusal.the-variants.{BeginMisplaced}
+use Rattle.hierarchy.specs.Refusals.{first}
 use Rattle.std.specs.Results.{isOk}
 use Rattle.std.proofs.shelf.Lists.{append-nil}
 use Rattle.std.proofs.shelf.Tests.{ne-eqb}
@@ -58,14 +59,14 @@ arrow-kept None s t r e = let z : _≡_ {A = ℕ} 0 1 = cc in absurd (omega arit
 arrow-kept (Some q) s t r e = refl
 
 edit-kept : (s : Sheet) (e : Edit) (r : Refusal) → settled (applied s e .answer) ≡ Err r → applied s e .sheet ≡ s
-edit-kept s (Node i l) r h = place-kept (sheets.first (sheets.node-refusals s i l)) s _ _ r h
-edit-kept s (Box i j) r h = place-kept (sheets.first (sheets.box-refusals s i j)) s _ _ r h
-edit-kept s (Exit i p) r h = arrow-kept (sheets.first (sheets.exit-refusals s i p)) s _ r h
-edit-kept s (Look i p l) r h = arrow-kept (sheets.first (sheets.look-refusals s i p l)) s _ r h
-edit-kept s (Edge i p w) r h = arrow-kept (sheets.first (sheets.edge-refusals s i p w true)) s _ r h
-edit-kept s (Leave i b e w) r h = arrow-kept (sheets.first (sheets.leave-refusals s i b e w true)) s _ r h
-edit-kept s (Unedge i p w) r h = arrow-kept (sheets.first (sheets.edge-refusals s i p w false)) s _ r h
-edit-kept s (Unleave i b e w) r h = arrow-kept (sheets.first (sheets.leave-refusals s i b e w false)) s _ r h
+edit-kept s (Node i l) r h = place-kept (first (sheets.node-refusals s i l)) s _ _ r h
+edit-kept s (Box i j) r h = place-kept (first (sheets.box-refusals s i j)) s _ _ r h
+edit-kept s (Exit i p) r h = arrow-kept (first (sheets.exit-refusals s i p)) s _ r h
+edit-kept s (Look i p l) r h = arrow-kept (first (sheets.look-refusals s i p l)) s _ r h
+edit-kept s (Edge i p w) r h = arrow-kept (first (sheets.edge-refusals s i p w true)) s _ r h
+edit-kept s (Leave i b e w) r h = arrow-kept (first (sheets.leave-refusals s i b e w true)) s _ r h
+edit-kept s (Unedge i p w) r h = arrow-kept (first (sheets.edge-refusals s i p w false)) s _ r h
+edit-kept s (Unleave i b e w) r h = arrow-kept (first (sheets.leave-refusals s i b e w false)) s _ r h
 
 automaton-kept : (o : Option Refusal) (a b : Automaton) (r : Refusal) → automata.settled {X = Unit {0}} o a b (tt {0}) .answer ≡ Err r → automata.settled {X = Unit {0}} o a b (tt {0}) .automaton ≡ a
 automaton-kept None a b r e = let z : _≡_ {A = ℕ} 0 1 = cc in absurd (omega arith)
@@ -76,21 +77,21 @@ state-kept None a b n r e = let z : _≡_ {A = ℕ} 0 1 = cc in absurd (omega ar
 state-kept (Some q) a b n r e = refl
 
 monitor-edit-kept : (a : Automaton) (e : MonitorEdit) (r : Refusal) → automata-replay.applied a e .answer ≡ Err r → automata-replay.applied a e .automaton ≡ a
-monitor-edit-kept a State r h = state-kept (automata.first (automata.state-refusals a)) a _ _ r h
-monitor-edit-kept a (Step q care value t) r h = automaton-kept (automata.first (automata.step-refusals a q care value t)) a _ r h
-monitor-edit-kept a (Accept q) r h = automaton-kept (automata.first (automata.accept-refusals a q)) a _ r h
+monitor-edit-kept a State r h = state-kept (first (automata.state-refusals a)) a _ _ r h
+monitor-edit-kept a (Step q care value t) r h = automaton-kept (first (automata.step-refusals a q care value t)) a _ r h
+monitor-edit-kept a (Accept q) r h = automaton-kept (first (automata.accept-refusals a q)) a _ r h
 
 pub refused-unchanged : (d : Drawing) (c : Record) (r : Refusal) → performed d c .answer ≡ Err r → performed d c .drawing ≡ d
 refused-unchanged d (Begin n) r h =
     let a : cond (isOk (sheets.begin (d .sheet) n .answer)) new-automaton (d .automaton) ≡ d .automaton
     = ap (λ (o : Result (Unit {0}) Refusal). cond (isOk o) new-automaton (d .automaton)) h in
-    let e : sheets.begin (d .sheet) n .sheet ≡ d .sheet = sheet-kept (sheets.first (sheets.begin-refusals n)) (d .sheet) _ _ r h in
+    let e : sheets.begin (d .sheet) n .sheet ≡ d .sheet = sheet-kept (first (sheets.begin-refusals n)) (d .sheet) _ _ r h in
     ap₂ (λ (s : Sheet) (q : Automaton). record { sheet = s; automaton = q }) e a
 refused-unchanged d (Draw e) r h = ap (λ (s : Sheet). record { sheet = s; automaton = d .automaton }) (edit-kept (d .sheet) e r h)
 refused-unchanged d (Watch e) r h = ap (λ (q : Automaton). record { sheet = d .sheet; automaton = q }) (monitor-edit-kept (d .automaton) e r h)
 
 -- ---- one record more
-file-bytes-more : (rs : List Record) (c : Record) → file-bytes (rs ++ c ∷ []) ≡ file-bytes rs ++ record-bytes c
+pub file-bytes-more : (rs : List Record) (c : Record) → file-bytes (rs ++ c ∷ []) ≡ file-bytes rs ++ record-bytes c
 file-bytes-more [] c = append-nil (record-bytes c)
 file-bytes-more (r ∷ rs) c = ap (λ l. record-bytes r ++ l) (file-bytes-more rs c) ∙ sym (append-assoc (record-bytes r) (file-bytes rs) (record-bytes c))
 
@@ -107,11 +108,11 @@ watches-more [] c = or-none (is-watch c)
 watches-more (r ∷ rs) c = or-more (is-watch r) (watches (rs ++ c ∷ [])) (watches rs) (is-watch c) (watches-more rs c)
 
 -- whether the next record is the first
-abbrev still : Bool → List Record → Bool
+abbrev pub still : Bool → List Record → Bool
 still first [] = first
 still first (r ∷ rs) = false
 
-still-not : (rs : List Record) → false ≡ still false rs
+pub still-not : (rs : List Record) → false ≡ still false rs
 still-not [] = refl
 still-not (r ∷ rs) = refl
 
@@ -120,7 +121,7 @@ stand-more : (rs : List Record) (first : Bool) (d d′ : Drawing) (c : Record) �
 stand-more [] first d d′ c none p a = then p a none
 stand-more (r ∷ rs) first d d′ c (then q b s) p a = then q b (stand-more rs false (performed d r .drawing) d′ c s (p ∙ still-not rs) a)
 
-first-still : (rs : List Record) → first-of rs ≡ still true rs
+pub first-still : (rs : List Record) → first-of rs ≡ still true rs
 first-still [] = refl
 first-still (r ∷ rs) = refl
 

@@ -1,3 +1,4 @@
 pub mod Records
 pub mod Files
 pub mod Steps
+pub mod Stored

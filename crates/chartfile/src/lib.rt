@@ -1,7 +1,8 @@
 // Chart files: records, each one byte of kind and a body of fixed length, read into a chart and a monitor.
 // A fault tells why, in which record, and where that record starts; the records before it stand.
 ghost use mathlib.Core.Path.{_≡_};
-ghost use Rattle.chartfile.specs.Files.{Loaded, drawing};
+ghost use Rattle.chartfile.specs.Files.{Loaded, Loads-one-way, drawing};
+ghost use Rattle.chartfile.specs.Stored.{Stored-files-load};
 use chart::Chart;
 use hierarchy::Refusal;
 use hierarchy::refusal::RefusalDebug;
@@ -12,8 +13,13 @@ mod one;
 mod perform;
 mod read;
 mod record;
+mod store;
 
 pub use record::Record;
+pub use store::Unstored;
+pub use store::UnstoredDebug;
+pub use store::UnstoredPartialEq;
+pub use store::write;
 
 // How many bytes a chart file has at most.
 pub const LONGEST: usize = 16384;
@@ -56,3 +62,13 @@ pub fn load(bytes: &[u8], chart: &mut Chart, monitor: &mut Monitor) -> Result<bo
     }
     Ok(watched)
 }
+
+// One file loads in one way: what `load` tells of is all there is to tell.
+pub fn files_load_one_way()
+    ensures { λ _. ⌜ Loads-one-way ⌝ }
+{}
+
+// Records that stand, stored, load to where they lead.
+pub fn stored_files_load()
+    ensures { λ _. ⌜ Stored-files-load ⌝ }
+{}

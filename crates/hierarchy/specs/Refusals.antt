@@ -1,8 +1,11 @@
 -- The refusals: their numbers, below 20 because of the input and from 20 on because of the state, and their texts.
 -- Assumes nothing.
-use mathlib.Core.List.{List}
+use mathlib.Core.Bool.{Bool, cond}
+use mathlib.Core.List.{List, [], _∷_}
 use Prim.Native.Nat.{ℕ}
 use lib.Chars.{codes}
+use Rattle.std.specs.declared.option.Option.{Option}
+use Rattle.std.specs.declared.option.Option.the-variants.{Some, None}
 use Rattle.hierarchy.specs.declared.refusal.Refusal.{Refusal}
 use Rattle.hierarchy.specs.declared.refusal.Refusal.the-variants.{TooManyStructures, ReservedLookBit, BoxNotBelow, BadStepLetter, UnknownKind, CutRecord, TooLittleMemory, WheelSizes, FileTooLong, NoStructure, NoPlace, NotANode, NotABox, NotAnExit, Full, AlreadyThere, NotThere, TooLarge, NoTransition, BeginMisplaced}
 
@@ -50,3 +53,11 @@ refusal-text NotThere = codes "it is not there to erase"
 refusal-text TooLarge = codes "the hierarchy is too large"
 refusal-text NoTransition = codes "the walk stands on no state, or the guide names no transition from it"
 refusal-text BeginMisplaced = codes "a file begins with one begin, and has no other"
+
+-- A refusal list: tests, each with the refusal that it calls for. The first whose test holds is given.
+abbrev pub Refusals : Type 0
+Refusals = List (Bool × Refusal)
+
+abbrev pub first : Refusals → Option Refusal
+first [] = None
+first (x ∷ rest) = cond (x .0) (Some (x .1)) (first rest)

@@ -1,7 +1,7 @@
 -- What automaton a monitor's edits make, each by its arguments alone, and what each edit answers.
 -- Assumes nothing.
-use mathlib.Core.Bool.{Bool, false, cond, not, _&&_, _||_}
-use mathlib.Core.List.{List, [], _∷_}
+use mathlib.Core.Bool.{Bool, false, not, _&&_, _||_}
+use mathlib.Core.List.{[], _∷_}
 use Prim.Native.Nat.{ℕ, _+_, _<_}
 use lib.Bits.{bitAnd}
 use lib.Dec.{ltb, eqb}
@@ -9,18 +9,10 @@ use Rattle.std.specs.declared.option.Option.{Option}
 use Rattle.std.specs.declared.option.Option.the-variants.{Some, None}
 use Rattle.std.specs.declared.result.Result.{Result}
 use Rattle.std.specs.declared.result.Result.the-variants.{Ok, Err}
-use Rattle.hierarchy.specs.Refusals.{refusal-number}
+use Rattle.hierarchy.specs.Refusals.{refusal-number, Refusals, first}
 use Rattle.hierarchy.specs.declared.refusal.Refusal.{Refusal}
 use Rattle.hierarchy.specs.declared.refusal.Refusal.the-variants.{BadStepLetter, NoPlace, Full, AlreadyThere}
 use Rattle.monitor.specs.Automata.{Automaton}
-
--- A refusal list: tests, each with the refusal that it calls for. The first whose test holds is given.
-abbrev pub Refusals : Type 0
-Refusals = List (Bool × Refusal)
-
-abbrev pub first : Refusals → Option Refusal
-first [] = None
-first (x ∷ rest) = cond (x .0) (Some (x .1)) (first rest)
 
 -- the numbers in a refusal list ascend, so that the first is the least
 abbrev pub Ascends : Refusals → Type 0

@@ -17,7 +17,8 @@ use Rattle.hierarchy.specs.declared.refusal.Refusal.{Refusal}
 use Rattle.sheet.specs.declared.Spot.{Spot}
 use Rattle.sheet.specs.declared.Spot.the-variants.{Node, Box}
 use Rattle.sheet.specs.Sheet.{Structure, Sheet, nothing, at, present, node?, box?, exit?, inner, look}
-use Rattle.sheet.specs.Edits.{Refusals, first, already, node-refusals, box-refusals, exit-refusals, look-refusals, edge-refusals, leave-refusals}
+use Rattle.hierarchy.specs.Refusals.{Refusals, first}
+use Rattle.sheet.specs.Edits.{already, node-refusals, box-refusals, exit-refusals, look-refusals, edge-refusals, leave-refusals}
 use Rattle.sheet.specs.Laws.{later, edge-stands, leave-stands}
 
 pub test-below : (f : Option Spot → Bool) → f None ≡ false → (ps : List Spot) (p : ℕ) → f (nth ps p) ≡ true → p < length ps

@@ -10,9 +10,9 @@ use Rattle.std.specs.declared.option.Option.{Option}
 use Rattle.std.specs.declared.option.Option.the-variants.{Some, None}
 use Rattle.std.proofs.shelf.Tests.{true≢false}
 use Rattle.hierarchy.specs.declared.refusal.Refusal.{Refusal}
-use Rattle.hierarchy.specs.Refusals.{refusal-number}
+use Rattle.hierarchy.specs.Refusals.{refusal-number, Refusals, first}
 use Rattle.sheet.specs.Sheet.{Sheet}
-use Rattle.sheet.specs.Edits.{Refusals, first, already, node-refusals, box-refusals, exit-refusals, look-refusals, edge-refusals, leave-refusals}
+use Rattle.sheet.specs.Edits.{already, node-refusals, box-refusals, exit-refusals, look-refusals, edge-refusals, leave-refusals}
 use Rattle.sheet.specs.Least.{Holds, Gives-least, Least-refusal-first}
 
 -- each number is above n, and above the one before

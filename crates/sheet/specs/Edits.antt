@@ -1,7 +1,7 @@
 -- The edits of a sheet, fed their arguments alone: what refuses each, in the order of the refusals' numbers, what it
 -- answers, and the sheet after. Assumes nothing.
-use mathlib.Core.List.{List, [], _∷_}
-use mathlib.Core.Bool.{Bool, true, false, cond, not, _&&_}
+use mathlib.Core.List.{[], _∷_}
+use mathlib.Core.Bool.{Bool, true, false, not, _&&_}
 use Prim.Native.Nat.{ℕ}
 use lib.ListN.{length, replicate}
 use lib.Bits.{bitAnd}
@@ -10,20 +10,12 @@ use Rattle.std.specs.declared.option.Option.{Option}
 use Rattle.std.specs.declared.option.Option.the-variants.{Some, None}
 use Rattle.std.specs.declared.result.Result.{Result}
 use Rattle.std.specs.declared.result.Result.the-variants.{Ok, Err}
+use Rattle.hierarchy.specs.Refusals.{Refusals, first}
 use Rattle.hierarchy.specs.declared.refusal.Refusal.{Refusal}
 use Rattle.hierarchy.specs.declared.refusal.Refusal.the-variants.{TooManyStructures, ReservedLookBit, BoxNotBelow, NoStructure, NoPlace, NotANode, NotABox, NotAnExit, Full, AlreadyThere, NotThere}
 use Rattle.sheet.specs.declared.Spot.the-variants.{Node, Box}
 use Rattle.sheet.specs.Sheet.{Sheet, at, present, spot, node?, box?, exit?, inner, look}
 use Rattle.sheet.specs.Changes.{with-place, with-spot, with-edge, with-leave, fresh, changed}
-
--- a test and the refusal that it gives; the lists below stand in the order of the refusals' numbers
-abbrev pub Refusals : Type 0
-Refusals = List (Bool × Refusal)
-
--- the first refusal whose test holds
-abbrev pub first : Refusals → Option Refusal
-first [] = None
-first (x ∷ xs) = cond (x .0) (Some (x .1)) (first xs)
 
 -- what an edit gives: the sheet after, and the answer
 pub record Outcome (X : Type 0) : Type 0 where
@@ -43,6 +35,8 @@ bad-look l = not (eqb (bitAnd l 112) 0)
 abbrev pub already : Bool → Bool → Bool × Refusal
 already true there = (there, AlreadyThere)
 already false there = (not there, NotThere)
+
+-- The lists of refusals below stand in the order of the refusals' numbers.
 
 -- begin: each of n structures is new
 abbrev pub begun : ℕ → Sheet

@@ -7,9 +7,9 @@ use mathlib.Core.Logic.{_⊎_}
 use Prim.Native.Nat.{ℕ, _≤_}
 use Rattle.std.specs.declared.option.Option.the-variants.{Some}
 use Rattle.hierarchy.specs.declared.refusal.Refusal.{Refusal}
-use Rattle.hierarchy.specs.Refusals.{refusal-number}
+use Rattle.hierarchy.specs.Refusals.{refusal-number, Refusals, first}
 use Rattle.sheet.specs.Sheet.{Sheet}
-use Rattle.sheet.specs.Edits.{Refusals, first, node-refusals, box-refusals, exit-refusals, look-refusals, edge-refusals, leave-refusals}
+use Rattle.sheet.specs.Edits.{node-refusals, box-refusals, exit-refusals, look-refusals, edge-refusals, leave-refusals}
 
 -- r is a refusal of the list whose test holds
 abbrev pub Holds : Refusal → Refusals → Type 0

@@ -6,6 +6,7 @@ ghost use Prim.Native.Nat.{_<_};
 ghost use Rattle.std.specs.Results.{isOk};
 ghost use Rattle.chart.specs.Charts.{sheet};
 ghost use Rattle.sheet.specs.Sheet.{spot, exit?};
+ghost use Rattle.hierarchy.specs.Refusals.{first};
 ghost use Rattle.sheet.specs.Edits as edit;
 use crate::chart::Chart;
 use hierarchy::Refusal;
@@ -81,7 +82,7 @@ impl Chart {
     }
 
     fn edge_refusal(&self, i: usize, p: usize, w: usize, there: bool) -> Option<Refusal>
-        ensures { λ r. ⌜ r ≡ edit.first (edit.edge-refusals (sheet (now (self .entry))) i p w there) ⌝ }
+        ensures { λ r. ⌜ r ≡ first (edit.edge-refusals (sheet (now (self .entry))) i p w there) ⌝ }
     {
         if i >= self.structures() {
             return Some(Refusal::NoStructure);
@@ -98,7 +99,7 @@ impl Chart {
     }
 
     fn leave_refusal(&self, i: usize, b: usize, e: usize, w: usize, there: bool) -> Option<Refusal>
-        ensures { λ r. ⌜ r ≡ edit.first (edit.leave-refusals (sheet (now (self .entry))) i b e w there) ⌝ }
+        ensures { λ r. ⌜ r ≡ first (edit.leave-refusals (sheet (now (self .entry))) i b e w there) ⌝ }
     {
         if i >= self.structures() {
             return Some(Refusal::NoStructure);
@@ -132,7 +133,7 @@ impl Chart {
 
 // Why what is there cannot be added, or what is not there cannot be erased.
 fn already(add: bool, there: bool) -> Option<Refusal>
-    ensures { λ r. ⌜ r ≡ edit.first (edit.already add there ∷ []) ⌝ }
+    ensures { λ r. ⌜ r ≡ first (edit.already add there ∷ []) ⌝ }
 {
     match (add, there) {
         (true, true) => Some(Refusal::AlreadyThere),

@@ -10,6 +10,7 @@ ghost use Rattle.sheet.specs.Sheet.{at, spot, node?, exit?, look};
 ghost use Rattle.sheet.specs.Laws.{later};
 ghost use Rattle.sheet.specs.Changes.{changed, with-place, with-spot};
 ghost use Rattle.sheet.specs.declared.Spot.the-variants.{Node};
+ghost use Rattle.hierarchy.specs.Refusals.{first};
 ghost use Rattle.sheet.specs.Edits as edit;
 use crate::chart::Chart;
 use crate::row::PLACES;
@@ -95,7 +96,7 @@ impl Chart {
     }
 
     fn node_refusal(&self, i: usize, look: u8) -> Option<Refusal>
-        ensures { λ r. ⌜ r ≡ edit.first (edit.node-refusals (sheet (now (self .entry))) i look) ⌝ }
+        ensures { λ r. ⌜ r ≡ first (edit.node-refusals (sheet (now (self .entry))) i look) ⌝ }
     {
         if look & 0x70 != 0 {
             return Some(Refusal::ReservedLookBit);
@@ -110,7 +111,7 @@ impl Chart {
     }
 
     fn box_refusal(&self, i: usize, inner: usize) -> Option<Refusal>
-        ensures { λ r. ⌜ r ≡ edit.first (edit.box-refusals (sheet (now (self .entry))) i inner) ⌝ }
+        ensures { λ r. ⌜ r ≡ first (edit.box-refusals (sheet (now (self .entry))) i inner) ⌝ }
     {
         if inner <= i {
             return Some(Refusal::BoxNotBelow);
@@ -125,7 +126,7 @@ impl Chart {
     }
 
     fn exit_refusal(&self, i: usize, p: usize) -> Option<Refusal>
-        ensures { λ r. ⌜ r ≡ edit.first (edit.exit-refusals (sheet (now (self .entry))) i p) ⌝ }
+        ensures { λ r. ⌜ r ≡ first (edit.exit-refusals (sheet (now (self .entry))) i p) ⌝ }
     {
         if i >= self.structures() {
             return Some(Refusal::NoStructure);
@@ -144,7 +145,7 @@ impl Chart {
     }
 
     fn look_refusal(&self, i: usize, p: usize, look: u8) -> Option<Refusal>
-        ensures { λ r. ⌜ r ≡ edit.first (edit.look-refusals (sheet (now (self .entry))) i p look) ⌝ }
+        ensures { λ r. ⌜ r ≡ first (edit.look-refusals (sheet (now (self .entry))) i p look) ⌝ }
     {
         if look & 0x70 != 0 {
             return Some(Refusal::ReservedLookBit);

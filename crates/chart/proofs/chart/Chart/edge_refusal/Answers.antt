@@ -3,7 +3,8 @@ use mathlib.Core.Path.{_≡_, sym, _∙_, ap}
 use mathlib.Core.List.{_∷_, []}
 use native.Mathlib.Omega.{arith}
 use Rattle.chart.specs.Layout.{structure-of}
-use Rattle.sheet.specs.Edits.{first, already}
+use Rattle.hierarchy.specs.Refusals.{first}
+use Rattle.sheet.specs.Edits.{already}
 use Rattle.chart.specs.Charts.{sheet}
 use Rattle.sheet.proofs.Allows.{edge-last}
 use Rattle.chart.proofs.chart.Chart.edge_refusal.Needs as need
