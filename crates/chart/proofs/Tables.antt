@@ -1,16 +1,15 @@
 -- What a chart's table stands for, read and written row by row.
 use mathlib.Core.Path.{_≡_, refl, sym, ap, subst, _∙_, fun-ext}
-use mathlib.Core.List.{List, [], _∷_, _++_, map}
-use mathlib.Core.Bool.{Bool, true, false, cond}
-use mathlib.Core.Logic.{inl, inr, ⊎-elim, _≢_}
-use Prim.Native.Nat.{ℕ, zero, suc, _+_, _≤_, _<_}
+use mathlib.Core.List.{List, [], _∷_, map}
+use mathlib.Core.Bool.{Bool}
+use mathlib.Core.Logic.{⊎-elim}
+use Prim.Native.Nat.{ℕ, zero, suc, _≤_, _<_}
 use native.Mathlib.Omega.{arith}
 use lib.ListN.{length, getD, take, set, replicate}
 use lib.Dec.{eqb}
 use Rattle.std.specs.Finite.{nth}
-use Rattle.std.specs.declared.option.Option.{Option}
 use Rattle.std.specs.declared.option.Option.the-variants.{Some, None}
-use Rattle.std.proofs.shelf.Lists.{length-map, length-take, length-take-le, length-set, getD-map, getD-take, getD-past, map-set, getD-set-same, getD-set-other, take-replicate, getD-replicate, length-replicate}
+use Rattle.std.proofs.shelf.Lists.{length-map, length-take, length-take-le, getD-map, getD-take, getD-past, map-set, getD-set-same, getD-set-other, take-replicate, getD-replicate, length-replicate}
 use Rattle.std.proofs.shelf.Maps.{nth-getD, nth-past}
 use Rattle.std.proofs.shelf.Tests.{cases-lt, cases-eq, eq-eqb, ne-eqb, cond-true, cond-false}
 use Rattle.chart.proofs.Bits.{no-bit}
@@ -18,7 +17,7 @@ use Rattle.chart.specs.declared.row.Row.{Row}
 use Rattle.chart.specs.declared.row.Ends.{Ends}
 use Rattle.chart.specs.declared.row.Pairs.{Pairs}
 use Rattle.sheet.specs.declared.Spot.{Spot}
-use Rattle.sheet.specs.Sheet.{Structure, Sheet, nothing, at}
+use Rattle.sheet.specs.Sheet.{Structure, nothing, at}
 use Rattle.chart.specs.Layout.{Counts, structure-of, sheet-of, ends-of, no-bits, pairs-of, triples-of}
 use Rattle.sheet.specs.Changes.{no-ends, no-pairs, but, but2, but3, with-edge, with-spot, with-leave, fresh}
 

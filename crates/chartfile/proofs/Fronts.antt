@@ -1,5 +1,5 @@
 -- The first bytes of a file, taken one by one, and which kinds are unknown.
-use mathlib.Core.Path.{_≡_, refl, sym, ap, _∙_}
+use mathlib.Core.Path.{_≡_, sym, ap, _∙_}
 use mathlib.Core.List.{List, [], _∷_}
 use Prim.Native.Nat.{ℕ, zero, suc, _-_, _≤_, _<_}
 use native.Mathlib.Omega.{arith}
@@ -8,7 +8,7 @@ use Rattle.std.specs.declared.option.Option.the-variants.{Some, None}
 use Rattle.std.proofs.shelf.Ways.{tells}
 use Rattle.hierarchy.specs.declared.refusal.Refusal.the-variants.{CutRecord}
 use Rattle.chartfile.specs.Records.{body-length}
-use Rattle.chartfile.specs.Files.{Unreadable, cut, unknown}
+use Rattle.chartfile.specs.Files.{Unreadable, cut}
 
 take-whole : (n : ℕ) (xs : List ℕ) → n ≡ length xs → take n xs ≡ xs
 take-whole n [] e = let z : n ≡ 0 = e in ap (λ k. take k []) z

@@ -2,7 +2,7 @@
 use mathlib.Core.Path.{_≡_, refl, sym, ap, subst, _∙_}
 use mathlib.Core.List.{List, [], _∷_, _++_, append-assoc}
 use mathlib.Core.Bool.{Bool, true, false, cond}
-use Prim.Native.Nat.{ℕ, _+_, _≤_, _<_}
+use Prim.Native.Nat.{ℕ, _+_, _≤_}
 use native.Mathlib.Omega.{arith}
 use lib.ListN.{length}
 use lib.Dec.{eqb}
@@ -16,8 +16,8 @@ use Rattle.monitor.specs.declared.replay.MonitorEdit.the-variants.{State, Step,
 use Rattle.chartfile.specs.declared.Fault.{Fault}
 use Rattle.chartfile.specs.declared.record.Record.{Record}
 use Rattle.chartfile.specs.declared.record.Record.the-variants.{Begin, Draw, Watch}
-use Rattle.chartfile.specs.Records.{Drawing, body-length, record-bytes, file-bytes, is-begin, watches, performed}
-use Rattle.chartfile.specs.Files.{Stand, none, then, Unreadable, unknown, cut, Refused, missing, unreadable, misplaced, by-call, Ends, whole, fault, first-of, Read, Loaded, too-long, short, Loads-one-way}
+use Rattle.chartfile.specs.Records.{Drawing, body-length, record-bytes, file-bytes, is-begin, performed}
+use Rattle.chartfile.specs.Files.{Stand, none, then, Unreadable, unknown, cut, Refused, missing, unreadable, misplaced, by-call, Ends, whole, fault, first-of, Read, too-long, short, Loads-one-way}
 use Rattle.chartfile.proofs.Progress.{still, still-not, first-still}
 
 -- ---- reading back: the record at the front, and what stands behind it

@@ -32,7 +32,7 @@ use Rattle.chartfile.specs.declared.record.Record.{Record}
 use Rattle.chartfile.specs.declared.record.Record.the-variants.{Begin, Draw, Watch}
 use Rattle.chartfile.specs.Records.{Drawing, record-bytes, file-bytes, is-begin, is-watch, watches, performed, settled}
 use Rattle.chartfile.specs.Files.{Stand, none, then, Refused, missing, Ends, whole, fault, first-of, Read}
-use Rattle.chartfile.specs.Steps.{Took, Stopped, Faulty}
+use Rattle.chartfile.specs.Steps.{Took, Faulty}
 
 -- how far loading has come
 pub record Progress (before now : Drawing) (bytes rest : List ℕ) (number : ℕ) (watched : Bool) : Type 0 where

@@ -1,5 +1,5 @@
 -- A file stored record by record, byte by byte; and that it loads.
-use mathlib.Core.Path.{_≡_, refl, sym, ap, subst, _∙_}
+use mathlib.Core.Path.{_≡_, refl, sym, ap, _∙_}
 use mathlib.Core.List.{List, [], _∷_, _++_, append-assoc}
 use mathlib.Core.Bool.{Bool, true, false, cond, _&&_}
 use Prim.Native.Nat.{ℕ, zero, suc, _+_, _≤_, _<_}
@@ -14,8 +14,8 @@ use Rattle.std.specs.Results.{isOk, isErr}
 use Rattle.chartfile.specs.declared.store.Unstored.{Unstored}
 use Rattle.chartfile.specs.declared.store.Unstored.the-variants.{Field, TooLong, NoMemory}
 use Rattle.chartfile.specs.declared.record.Record.{Record}
-use Rattle.chartfile.specs.Records.{record-bytes, file-bytes, watches}
-use Rattle.chartfile.specs.Files.{whole, Loaded, short}
+use Rattle.chartfile.specs.Records.{record-bytes, file-bytes}
+use Rattle.chartfile.specs.Files.{whole, short}
 use Rattle.chartfile.specs.Stored.{fit, Unstorable, Unpushed, Stored-files-load}
 use Rattle.chartfile.proofs.Progress.{file-bytes-more}
 

@@ -1,22 +1,21 @@
 -- What is known where no refusal of an edit holds.
-use mathlib.Core.Path.{_≡_, refl, sym, ap, subst, _∙_}
-use mathlib.Core.List.{List, [], _∷_, _++_}
-use mathlib.Core.Bool.{Bool, true, false, cond, not, _&&_}
-use mathlib.Core.Logic.{_⊎_, inl, inr, ⊎-elim, _≢_}
-use Prim.Native.Nat.{ℕ, zero, suc, _+_, _≤_, _<_}
+use mathlib.Core.Path.{_≡_, refl, sym, ap, _∙_}
+use mathlib.Core.List.{List, [], _∷_}
+use mathlib.Core.Bool.{Bool, true, false, cond, _&&_}
+use mathlib.Core.Logic.{_⊎_, ⊎-elim, _≢_}
+use Prim.Native.Nat.{ℕ, _<_}
 use native.Mathlib.Omega.{arith}
-use lib.ListN.{length, getD, set, replicate}
-use lib.Dec.{eqb, ltb}
+use lib.ListN.{length}
+use lib.Dec.{ltb}
 use Rattle.std.specs.Finite.{nth}
 use Rattle.std.specs.declared.option.Option.{Option}
 use Rattle.std.specs.declared.option.Option.the-variants.{Some, None}
-use Rattle.std.proofs.shelf.Lists.{length-replicate, getD-replicate, length-set, length-push, getD-set-same, getD-set-other}
-use Rattle.std.proofs.shelf.Maps.{nth-getD, nth-past}
-use Rattle.std.proofs.shelf.Tests.{cases-lt, cases-eq, cases-bool, eqb-true, and-parts, and-from, cond-true, cond-false, not-false, ltb-true, lt-ltb, true≢false, false≢true}
+use Rattle.std.proofs.shelf.Maps.{nth-past}
+use Rattle.std.proofs.shelf.Tests.{cases-lt, and-parts, and-from, not-false, ltb-true, lt-ltb, false≢true}
 use Rattle.hierarchy.specs.declared.refusal.Refusal.{Refusal}
 use Rattle.sheet.specs.declared.Spot.{Spot}
-use Rattle.sheet.specs.declared.Spot.the-variants.{Node, Box}
-use Rattle.sheet.specs.Sheet.{Structure, Sheet, nothing, at, present, node?, box?, exit?, inner, look}
+use Rattle.sheet.specs.declared.Spot.the-variants.{Box}
+use Rattle.sheet.specs.Sheet.{Structure, Sheet, at, present, node?, box?, exit?, inner, look}
 use Rattle.hierarchy.specs.Refusals.{Refusals, first}
 use Rattle.sheet.specs.Edits.{already, node-refusals, box-refusals, exit-refusals, look-refusals, edge-refusals, leave-refusals}
 use Rattle.sheet.specs.Laws.{later, edge-stands, leave-stands}

@@ -1,17 +1,16 @@
 -- The first refusal of an ascending list has the least number, and every edit's list of refusals ascends.
 use mathlib.Core.Path.{_≡_, refl, sym, ap, subst, _∙_}
-use mathlib.Core.List.{List, [], _∷_}
+use mathlib.Core.List.{[], _∷_}
 use mathlib.Core.Bool.{Bool, true, false, cond}
 use mathlib.Core.Logic.{_⊎_, inl, inr, ⊎-elim}
-use Prim.Native.Nat.{ℕ, _≤_, _<_}
+use Prim.Native.Nat.{ℕ, _<_}
 use native.Mathlib.Omega.{arith}
 use lib.Dec.{lit<}
 use Rattle.std.specs.declared.option.Option.{Option}
-use Rattle.std.specs.declared.option.Option.the-variants.{Some, None}
+use Rattle.std.specs.declared.option.Option.the-variants.{Some}
 use Rattle.std.proofs.shelf.Tests.{true≢false}
 use Rattle.hierarchy.specs.declared.refusal.Refusal.{Refusal}
 use Rattle.hierarchy.specs.Refusals.{refusal-number, Refusals, first}
-use Rattle.sheet.specs.Sheet.{Sheet}
 use Rattle.sheet.specs.Edits.{already, node-refusals, box-refusals, exit-refusals, look-refusals, edge-refusals, leave-refusals}
 use Rattle.sheet.specs.Least.{Holds, Gives-least, Least-refusal-first}
 

@@ -1,21 +1,21 @@
 -- An edit of one structure that only grows what the laws ask for keeps a sheet sound.
 use mathlib.Core.Path.{_≡_, refl, sym, ap, subst, _∙_}
 use mathlib.Core.List.{List, [], _∷_, _++_}
-use mathlib.Core.Bool.{Bool, true, false, cond, not, _&&_}
+use mathlib.Core.Bool.{Bool, true, false, _&&_}
 use mathlib.Core.Logic.{_⊎_, inl, inr, ⊎-elim, _≢_}
-use Prim.Native.Nat.{ℕ, zero, suc, _+_, _≤_, _<_}
+use Prim.Native.Nat.{ℕ, zero, suc, _+_, _<_}
 use native.Mathlib.Omega.{arith}
-use lib.ListN.{length, getD, set, replicate}
-use lib.Dec.{eqb, ltb}
+use lib.ListN.{length, set}
+use lib.Dec.{eqb}
 use Rattle.std.specs.Finite.{nth}
 use Rattle.std.specs.declared.option.Option.{Option}
 use Rattle.std.specs.declared.option.Option.the-variants.{Some, None}
 use Rattle.std.proofs.shelf.Lists.{length-replicate, getD-replicate, length-set, length-push, getD-set-same, getD-set-other}
-use Rattle.std.proofs.shelf.Maps.{nth-getD, nth-past}
-use Rattle.std.proofs.shelf.Tests.{cases-lt, cases-eq, cases-bool, eqb-true, and-parts, and-from, cond-true, cond-false, not-false, ltb-true, lt-ltb, true≢false, false≢true}
+use Rattle.std.proofs.shelf.Maps.{nth-getD}
+use Rattle.std.proofs.shelf.Tests.{cases-eq, cases-bool, eqb-true, and-parts, and-from, cond-true, cond-false, ltb-true, lt-ltb, true≢false, false≢true}
 use Rattle.sheet.specs.declared.Spot.{Spot}
 use Rattle.sheet.specs.declared.Spot.the-variants.{Node, Box}
-use Rattle.sheet.specs.Sheet.{Structure, Sheet, nothing, at, present, node?, box?, exit?, inner, look}
+use Rattle.sheet.specs.Sheet.{Structure, Sheet, nothing, at, present, node?, box?, exit?, inner}
 use Rattle.sheet.specs.Changes.{but, but2, but3, with-edge, with-place, with-spot, with-leave, fresh}
 use Rattle.sheet.specs.Edits.{begun}
 use Rattle.sheet.specs.Laws.{Sound, later, edge-stands, leave-stands}

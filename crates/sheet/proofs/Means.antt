@@ -1,24 +1,24 @@
 -- A sound sheet of a chart's size means a lawful hierarchy.
-use mathlib.Core.Path.{_≡_, refl, sym, ap, subst, _∙_}
+use mathlib.Core.Path.{_≡_, refl, ap, subst}
 use mathlib.Core.List.{List, [], _∷_}
-use mathlib.Core.Bool.{Bool, true, false, _&&_, Bool-set}
+use mathlib.Core.Bool.{Bool, true, _&&_, Bool-set}
 use mathlib.Core.Logic.{_≢_, ⊎-elim, ∥∥₁-elim}
-use Prim.Native.Nat.{ℕ, zero, suc, _%_, _≤_, _<_, max}
+use Prim.Native.Nat.{ℕ, zero, suc, _≤_, _<_}
 use native.Mathlib.Omega.{arith}
 use lib.ListN.{length}
-use lib.Dec.{ltb, leb}
+use lib.Dec.{ltb}
 use Rattle.std.specs.Finite.{nth}
 use Rattle.std.specs.declared.option.Option.{Option}
 use Rattle.std.specs.declared.option.Option.the-variants.{Some, None}
 use Rattle.std.proofs.shelf.Lists.{getD-past}
-use Rattle.std.proofs.shelf.Maps.{nth-getD, nth-past}
-use Rattle.std.proofs.shelf.Tests.{cases-lt, and-parts, ltb-true, true≢false, false≢true}
-use Rattle.hierarchy.specs.Meaning.{Meaning, Kind, Lawful}
+use Rattle.std.proofs.shelf.Maps.{nth-past}
+use Rattle.std.proofs.shelf.Tests.{cases-lt, and-parts, ltb-true, false≢true}
+use Rattle.hierarchy.specs.Meaning.{Lawful}
 use Rattle.hierarchy.specs.Meaning as meaning
 use Rattle.sheet.specs.declared.Spot.{Spot}
 use Rattle.sheet.specs.declared.Spot.the-variants.{Node, Box}
 use Rattle.sheet.specs.Sheet.{Structure, Sheet, nothing, at, present, spot, node?, box?, exit?, inner, look, kind, longest, letter-of-look, mark-of-look, meaning-of}
-use Rattle.sheet.specs.Laws.{Sound, later, edge-stands, leave-stands}
+use Rattle.sheet.specs.Laws.{Sound, later}
 use Rattle.sheet.proofs.Longest.{at-longest}
 use Rattle.sheet.proofs.Allows.{test-below}
 

@@ -1,12 +1,12 @@
 -- What the edits do to one structure of a sheet.
 -- Assumes nothing.
-use mathlib.Core.List.{List, [], _∷_, _++_}
+use mathlib.Core.List.{[], _∷_, _++_}
 use mathlib.Core.Bool.{Bool, false, cond}
 use Prim.Native.Nat.{ℕ}
 use lib.ListN.{set}
 use lib.Dec.{eqb}
 use Rattle.sheet.specs.declared.Spot.{Spot}
-use Rattle.sheet.specs.declared.Spot.the-variants.{Node, Box}
+use Rattle.sheet.specs.declared.Spot.the-variants.{Node}
 use Rattle.sheet.specs.Sheet.{Structure, Sheet, at}
 
 abbrev pub no-ends : ℕ → Bool

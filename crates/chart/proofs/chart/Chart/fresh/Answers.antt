@@ -1,9 +1,9 @@
-use mathlib.Core.Path.{_≡_, refl, sym, ap, subst, _∙_}
-use Prim.Native.Nat.{ℕ, _<_, _≤_}
+use mathlib.Core.Path.{refl, sym, ap, subst, _∙_}
+use Prim.Native.Nat.{_≤_}
 use native.Mathlib.Omega.{arith}
-use lib.ListN.{replicate, getD}
+use lib.ListN.{replicate}
 use Rattle.std.proofs.shelf.Lists.{getD-replicate}
-use Rattle.sheet.specs.Sheet.{Sheet, longest}
+use Rattle.sheet.specs.Sheet.{longest}
 use Rattle.sheet.specs.Laws.{Sound}
 use Rattle.sheet.proofs.Longest.{longest-begun}
 use Rattle.sheet.proofs.Keeps.{begun-sound}

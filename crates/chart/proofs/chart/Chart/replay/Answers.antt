@@ -1,13 +1,10 @@
-use mathlib.Core.Path.{_≡_, sym, ap, _∙_}
-use mathlib.Core.List.{_∷_}
-use Prim.Native.Nat.{_+_, _≤_, _<_}
-use lib.ListN.{length, drop, getD}
-use native.Mathlib.Omega.{arith}
-use borrow.Author.Needs.{needs}
+use mathlib.Core.Path.{sym, ap, _∙_}
+use Prim.Native.Nat.{_+_}
+use lib.ListN.{drop}
 use Rattle.std.proofs.shelf.Lists.{at-drop-more, at-drop-all}
 use Rattle.sheet.specs.Sheet.{Sheet}
 use Rattle.chart.specs.Charts.{sheet}
-use Rattle.sheet.specs.Replay.{applied, replayed}
+use Rattle.sheet.specs.Replay.{replayed}
 use Rattle.chart.proofs.chart.Chart.replay.Needs as need
 
 pub loop-edit-again : need.loop-edit-again

@@ -1,6 +1,5 @@
 use mathlib.Core.Path.{sym, subst, ap, _∙_, _≡_}
 use mathlib.Core.Logic.{∥∥₁-map}
-use Prim.Native.Nat.{_≤_}
 use lib.ListN.{length, set}
 use native.Mathlib.Omega.{arith}
 use Rattle.sheet.specs.Sheet.{Structure, at, inner, spot}

@@ -2,12 +2,12 @@ use borrow.Author.Needs.{needs}
 use mathlib.Core.Path.{sym, subst, ap, _∙_, _≡_}
 use mathlib.Core.List.{List}
 use mathlib.Core.Logic.{⊎-elim}
-use Prim.Native.Nat.{ℕ, _<_, _≤_, max}
+use Prim.Native.Nat.{_<_, _≤_, max}
 use lib.ListN.{length, set, getD}
 use native.Mathlib.Omega.{arith}
 use Rattle.std.proofs.shelf.Lists.{length-set, getD-set-same, getD-set-other}
 use Rattle.std.proofs.shelf.Tests.{cases-eq}
-use Rattle.sheet.specs.Sheet.{Sheet, at, longest}
+use Rattle.sheet.specs.Sheet.{Sheet, longest}
 use Rattle.sheet.specs.Laws.{Sound}
 use Rattle.sheet.proofs.Longest.{longest-set}
 use Rattle.chart.specs.declared.row.Row.{Row}

@@ -1,4 +1,3 @@
-use mathlib.Core.Path.{refl}
 use Rattle.chart.specs.Layout.{ends-of, no-bits}
 use Rattle.sheet.specs.Changes.{no-ends}
 use Rattle.chart.proofs.Tables.{read-replicate, no-bits-ends}

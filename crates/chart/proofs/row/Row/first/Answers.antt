@@ -5,7 +5,6 @@ use Prim.Native.Nat.{ℕ}
 use lib.ListN.{replicate}
 use Rattle.sheet.specs.declared.Spot.the-variants.{Node}
 use Rattle.chart.specs.Layout.{pairs-of, triples-of, structure-of}
-use Rattle.sheet.specs.Sheet.{Structure}
 use Rattle.sheet.specs.Changes.{no-pairs}
 use Rattle.chart.proofs.Tables.{read-replicate, no-bits-pairs}
 use Rattle.chart.proofs.row.Row.first.Needs as need

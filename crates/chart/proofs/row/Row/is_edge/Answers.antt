@@ -1,4 +1,3 @@
-use mathlib.Core.Path.{refl}
 use Rattle.chart.specs.Layout.{structure-of}
 use Rattle.chart.proofs.row.Row.is_edge.Needs as need
 

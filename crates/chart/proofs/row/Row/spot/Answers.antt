@@ -2,7 +2,6 @@ use borrow.Author.Needs.{needs}
 use mathlib.Core.Path.{sym}
 use Prim.Native.Nat.{_<_}
 use lib.ListN.{length}
-use native.Mathlib.Omega.{arith}
 use Rattle.chart.proofs.Tables.{place-read, place-none}
 use Rattle.chart.proofs.row.Row.spot.Needs as need
 

@@ -1,11 +1,9 @@
 use borrow.Author.Needs.{needs}
-use mathlib.Core.Path.{refl, ap, _≡_}
+use mathlib.Core.Path.{refl}
 use Prim.Native.Nat.{_<_}
 use lib.ListN.{length}
-use native.Mathlib.Omega.{arith}
 use Rattle.std.proofs.shelf.Lists.{take-more-set}
 use Rattle.chart.specs.Layout.{structure-of}
-use Rattle.sheet.specs.Sheet.{Structure}
 use Rattle.chart.proofs.row.Row.with_place.Needs as need
 
 pub returns : need.returns
