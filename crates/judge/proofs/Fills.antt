@@ -1,14 +1,14 @@
 -- From a search of one row to the hierarchy: what is reached is what hops reach.
 -- Assumes nothing.
-use mathlib.Core.Path.{_≡_, refl, sym, ap, subst, _∙_, fun-ext}
-use mathlib.Core.Bool.{Bool, true, false, cond}
-use mathlib.Core.Logic.{_↔_, _⊎_, inl, inr}
+use mathlib.Core.Path.{_≡_, sym, ap, subst, _∙_, fun-ext}
+use mathlib.Core.Bool.{true, false, cond}
+use mathlib.Core.Logic.{_⊎_, inl, inr}
 use Prim.Native.Nat.{ℕ, zero, suc, _+_, _≤_, _<_}
 use native.Mathlib.Omega.{arith}
 use Rattle.std.proofs.shelf.Tests.{cases-eq, both-ways}
 use Rattle.hierarchy.specs.Meaning.{Meaning, Lawful}
-use Rattle.hierarchy.specs.Flat.{Star, stop, step}
-use Rattle.theory.specs.Hops.{Pass, Hop, over, through, Hops}
+use Rattle.hierarchy.specs.Flat.{stop, step}
+use Rattle.theory.specs.Hops.{Hop, over, through, Hops}
 use Rattle.theory.proofs.Paths.{snoc}
 use Rattle.theory.proofs.Reaching.{pass→hops, hops→pass}
 use Rattle.guide.specs.declared.Entry.{Entry}
@@ -17,18 +17,11 @@ use Rattle.guide.specs.Layout.{Table, blank}
 use Rattle.judge.specs.declared.table.Site.{Site}
 use Rattle.judge.specs.Tables.{Others, Put}
 use Rattle.judge.specs.Spread.{Via, on-edge, by-exit, here, finished, child, Fit}
-use Rattle.judge.specs.Search.{undone, Ranked, Origin, old, new, Closed, NothingOpen, Spreads, Orderly}
+use Rattle.judge.specs.Search.{Ranked, Origin, old, new, Closed, NothingOpen, Spreads, Orderly}
 use Rattle.judge.specs.Rows.{HopBy, on, by, Start, Rooted, root, twig, Filled, at-entry, PlainRow, From}
 use Rattle.judge.specs.Seeds.{Seed, Seeded, plain-site}
 use Rattle.judge.proofs.Grow.{via-move}
-
-undone-le : (s : Site) (T : Table) (n : ℕ) → undone T s n ≤ n
-undone-le s T zero = omega arith
-undone-le s T (suc n) = go (here T s n .done) (undone-le s T n)
-  where
-    go : (b : Bool) → undone T s n ≤ n → cond b 0 1 + undone T s n ≤ suc n
-    go true h = omega arith
-    go false h = omega arith
+use Rattle.judge.proofs.Turns.{missing-le}
 
 -- a row with starts only
 module _ (m : Meaning) (s : Site) (Q : Start) (T : Table) (Z : Seeded s Q T) where
@@ -37,7 +30,7 @@ module _ (m : Meaning) (s : Site) (Q : Start) (T : Table) (Z : Seeded s Q T) whe
     where
       go : (here T s u ≡ blank) ⊎ Seed Q u (here T s u) → here T s u .done ≡ false
       go (inl e) = ap (λ x. x .done) e
-      go (inr z) = z .todo
+      go (inr z) = z .waiting
 
   pub seed-of : (u : ℕ) → here T s u .reached ≡ true → Seed Q u (here T s u)
   seed-of u h = go (Z u)
@@ -46,10 +39,13 @@ module _ (m : Meaning) (s : Site) (Q : Start) (T : Table) (Z : Seeded s Q T) whe
       go (inl e) = absurd (both-ways _ (ap (λ x. x .reached) e) h)
       go (inr z) = z
 
+  pub seed-why : (u : ℕ) → here T s u .reached ≡ true → Q u (finished (here T s u))
+  seed-why u h = seed-of u h .why
+
   pub seeded-ranked : (d : ℕ) → ((u : ℕ) → here T s u .reached ≡ true → here T s u .depth ≤ d) → Ranked (d + s .places) s T
   seeded-ranked d f u h =
       let a = ap {B = ℕ} (λ b. cond b 1 0) (seed-done u) in
-      omega (arith, f u h, undone-le s T (s .places), a)
+      omega (arith, f u h, missing-le (λ k. here T s k .done) (s .places), a)
 
   pub seeded-orderly : ((u : ℕ) → here T s u .reached ≡ true → here T s u .depth ≤ s .places) → Orderly m s T
   seeded-orderly f = record {
@@ -58,29 +54,36 @@ module _ (m : Meaning) (s : Site) (Q : Start) (T : Table) (Z : Seeded s Q T) whe
     closed = λ u e w d k. absurd (both-ways _ (seed-done u) d);
   }
 
--- a row searched to its end
-module _ (m : Meaning) (L : Lawful m) (s : Site) (Q : Start) (T T' : Table) (F : Fit m s) (Z : Seeded s Q T) (B : From m (s .structure + 1) T) (Y : Spreads m s T T') (C : Closed m s T') where
-  via→hop : {u e w : ℕ} → Via m T (s .structure) u e w → HopBy m (s .structure) u e w
+-- hops by the table are hops
+module _ (m : Meaning) (L : Lawful m) (i : ℕ) (T : Table) (B : From m (i + 1) T) where
+  pub via→hop : {u e w : ℕ} → Via m T i u e w → HopBy m i u e w
   via→hop (on-edge x) = on x
   via→hop {u} {e} (by-exit {j} p x r l) =
-      let h = L .inner (s .structure) u j p in
+      let h = L .inner i u j p in
       by p (hops→pass L (h .1) x (B j (omega (arith, h .0)) (h .1) .right e .0 r)) l
 
-  hop→via : {u w : ℕ} → Hop m (s .structure) u w → (e : ℕ) × Via m T (s .structure) u e w
+  pub hop→via : {u w : ℕ} → Hop m i u w → (e : ℕ) × Via m T i u e w
   hop→via (over x) = (0, on-edge x)
   hop→via {u} (through {j} {e} b p l) =
-      let h = L .inner (s .structure) u j b in
+      let h = L .inner i u j b in
       (e, by-exit b (p .exits) (B j (omega (arith, h .0)) (h .1) .right e .1 (pass→hops L (h .1) p)) l)
 
+pub hop-of : {m : Meaning} {i u e w : ℕ} → HopBy m i u e w → Hop m i u w
+hop-of (on x) = over x
+hop-of (by b p l) = through b p l
+
+-- a row searched to its end, where Q speaks for what was reached before
+module _ (m : Meaning) (L : Lawful m) (s : Site) (Q : Start) (T T' : Table) (F : Fit m s) (Z : (u : ℕ) → here T s u .reached ≡ true → Q u (finished (here T s u))) (B : From m (s .structure + 1) T)
+    (Y : Spreads m s T T') (C : Closed m s T') where
   pub filled : (k : ℕ) → Ranked k s T → NothingOpen T' s → Filled m (s .structure) Q k (here T' s)
   filled k R N = record { tree = λ u h. go u h (Y .each u h); closed = closed; shallow = shallow }
     where
       go : (u : ℕ) → here T' s u .reached ≡ true → Origin m s T T' u → Rooted m (s .structure) Q (here T' s) u
-      go u h (old r) = root (subst (Q u) (sym (Y .kept u r)) (seed-of m s Q T Z u r .why))
-      go u h (new a b c r d v) = twig a b c r d (via→hop v)
+      go u h (old r) = root (subst (Q u) (sym (Y .kept u r)) (Z u r))
+      go u h (new a b c r d v) = twig a b c r d (via→hop m L (s .structure) T B v)
 
       closed : (u w : ℕ) → here T' s u .reached ≡ true → Hop m (s .structure) u w → here T' s w .reached ≡ true
-      closed u w h v = let x = hop→via v in C u (x .0) w h (via-move m s (F .apart) (Y .others) (x .1))
+      closed u w h v = let x = hop→via m L (s .structure) T B v in C u (x .0) w h (via-move m s (F .apart) (Y .others) (x .1))
 
       shallow : (u : ℕ) → here T' s u .reached ≡ true → here T' s u .depth < k
       shallow u h =
@@ -100,10 +103,6 @@ module _ (m : Meaning) (i : ℕ) (Q : Start) (k : ℕ) (row : ℕ → Entry) (F 
     pub start : ℕ
     pub why : Q start (finished (row start))
     pub hops : Hops m i start u
-
-  hop-of : {u e w : ℕ} → HopBy m i u e w → Hop m i u w
-  hop-of (on x) = over x
-  hop-of (by b p l) = through b p l
 
   came-by : (n u : ℕ) → row u .depth ≤ n → row u .reached ≡ true → Came u
   came-by zero u d h = go (F .tree u h)
@@ -141,7 +140,7 @@ plain-start m s T T' n x e b c P u = go (cases-eq u n)
     go : (u ≡ n) ⊎ (u ≡ n → ⊥) → (here T' s u ≡ blank) ⊎ Seed (at-entry m (s .structure)) u (here T' s u)
     go (inl q) =
         let a : here T' s u ≡ child 0 0 0 = ap (here T' s) q ∙ P .here ∙ c in
-        inr (record { reached = ap (λ y. y .reached) a; todo = ap (λ y. y .done) a; why = (ap (λ y. y .depth) a, q ∙ e) })
+        inr (record { reached = ap (λ y. y .reached) a; waiting = ap (λ y. y .done) a; why = (ap (λ y. y .depth) a, q ∙ e) })
     go (inr q) = inl (P .rest u q ∙ b u)
 
 pub plain-fit : (m : Meaning) (L : Lawful m) (P i : ℕ) → m .large ≡ false → P ≡ m .places → i < m .structures → Fit m (plain-site P i)
@@ -163,5 +162,5 @@ module _ (m : Meaning) (L : Lawful m) (P i : ℕ) (T T' : Table) (F : Fit m (pla
 
   pub plain-filled : T Plain i (m .entry i) .reached ≡ true → PlainRow m i (T' Plain i)
   plain-filled e =
-      plain-right m i (T' Plain i) (seed-kept m L (plain-site P i) (at-entry m i) T T' F Z B Y C (m .entry i) e)
-      (subst (λ k. Filled m i (at-entry m i) k (T' Plain i)) (F .places) (filled m L (plain-site P i) (at-entry m i) T T' F Z B Y C P (λ u h. omega (arith, seeded-ranked m (plain-site P i) (at-entry m i) T Z 0 at-root u h)) N))
+      plain-right m i (T' Plain i) (seed-kept m L (plain-site P i) (at-entry m i) T T' F (seed-why m (plain-site P i) (at-entry m i) T Z) B Y C (m .entry i) e)
+      (subst (λ k. Filled m i (at-entry m i) k (T' Plain i)) (F .places) (filled m L (plain-site P i) (at-entry m i) T T' F (seed-why m (plain-site P i) (at-entry m i) T Z) B Y C P (λ u h. omega (arith, seeded-ranked m (plain-site P i) (at-entry m i) T Z 0 at-root u h)) N))

@@ -2,13 +2,13 @@
 use mathlib.Core.Path.{_≡_, refl, sym, ap, subst, _∙_}
 use mathlib.Core.Bool.{Bool, true, false, cond}
 use mathlib.Core.Logic.{_≢_, _⊎_, inl, inr}
-use Prim.Native.Nat.{ℕ, zero, suc, _+_, _≤_, _<_}
+use Prim.Native.Nat.{ℕ, _+_, _≤_, _<_}
 use native.Mathlib.Omega.{arith}
 use borrow.Author.Count.{below-more}
 use Rattle.std.proofs.shelf.Tests.{cases-bool, cases-eq, cases-lt, both-ways, cond-true, cond-false}
-use Rattle.hierarchy.specs.Meaning.{Meaning, Kind, absent, node, box}
+use Rattle.hierarchy.specs.Meaning.{Meaning, Kind, absent, box}
 use Rattle.guide.specs.declared.Lane.{Lane}
-use Rattle.guide.specs.declared.Lane.the-variants.{Plain, Marked}
+use Rattle.guide.specs.declared.Lane.the-variants.{Plain}
 use Rattle.guide.specs.declared.Entry.{Entry}
 use Rattle.judge.specs.declared.table.Site.{Site}
 use Rattle.hierarchy.specs.Meaning.{Lawful}
@@ -52,6 +52,24 @@ module _ (s : Site) (x : Entry) (f : ℕ → Bool) where
     below = below-more _ n (λ u h. P .rest u (λ z. omega arith) ∙ A .below u h) (P .here ∙ ap (λ y. or-entry y x) (A .above n (omega arith)) ∙ sym (cond-true (f n) _ _ q));
     above = λ u h. P .rest u (λ z. omega arith) ∙ A .above u (omega arith);
   }
+
+  -- a place that is reached stays as it is
+  pub adding-old : {T T' : Table} (n : ℕ) → here T' s n .reached ≡ true → Adding s x f n T T' → Adding s x f (n + 1) T T'
+  adding-old {T} {T'} n r A = record { others = A .others; below = below-more _ n (A .below) (same ∙ either (f n) (here T s n) ∙ ap (λ y. cond (f n) y (here T s n)) (sym stays)); above = λ u h. A .above u (omega arith) }
+    where
+      same : here T' s n ≡ here T s n
+      same = A .above n (omega arith)
+
+      stays : or-entry (here T s n) x ≡ here T s n
+      stays = cond-true (here T s n .reached) _ _ (sym (ap (λ y. y .reached) same) ∙ r)
+
+      either : (b : Bool) (y : Entry) → y ≡ cond b y y
+      either true y = refl
+      either false y = refl
+
+  pub adding-new : {T T' T'' : Table} (n : ℕ) → f n ≡ true → here T' s n .reached ≡ false → Adding s x f n T T' → Put T' T'' (s .lane) (s .row) n x → Adding s x f (n + 1) T T''
+  adding-new {T} {T'} {T''} n q r A P =
+      adding-yes n q A (record { here = P .here ∙ sym (cond-false (here T' s n .reached) _ _ r); rest = P .rest; others = P .others })
 
   pub adding-all : {T T' : Table} (n : ℕ) → ((u : ℕ) → f u ≡ true → u < n) → Adding s x f n T T' → Adds s x f T T'
   adding-all {T} {T'} n low A = record { others = A .others; each = λ u. go u (cases-lt u n) }
@@ -122,9 +140,6 @@ module _ (m : Meaning) (s : Site) (v : ℕ) where
   pub left-hops : {T' : Table} {j : ℕ} (n : ℕ) (t : Bool) → m .place (s .structure) v ≡ box j → t ≡ (m .exits j n && T' Plain j n .reached) → t ≡ true →
       (w : ℕ) → m .leave (s .structure) v n w ≡ true → Via m T' (s .structure) v n w
   left-hops {T'} {j} n t b q y w l = let h = and-parts (m .exits j n) (T' Plain j n .reached) (sym q ∙ y) in by-exit b (h .0) (h .1) l
-
-  pub left-none : {T : Table} → Left m s v T T 0
-  left-none = (grows-refl, λ e w h. absurd (omega arith))
 
   not-edge : Lawful m → {j w : ℕ} → m .place (s .structure) v ≡ box j → m .edge (s .structure) v w ≡ true → ⊥
   not-edge L {j} {w} b e = let f = L .edge-from _ _ w e in let z : _≡_ {A = ℕ} 0 1 = cc in omega arith

@@ -7,7 +7,7 @@ use Prim.Native.Nat.{ℕ, suc, _+_, _≤_, _<_}
 use native.Mathlib.Omega.{arith}
 use Rattle.std.proofs.shelf.Tests.{both-ways}
 use Rattle.hierarchy.specs.Meaning.{Meaning, box, Lawful}
-use Rattle.theory.specs.Hops.{Pass, PassMarked, HopPass, at-end, on-way, MarkedRound}
+use Rattle.theory.specs.Hops.{Pass, HopPass, at-end, on-way, MarkedRound}
 use Rattle.theory.proofs.Paths.{append}
 use Rattle.theory.proofs.Reaching.{pass→hops}
 use Rattle.theory.proofs.Passing.{marked-pass→hops}
@@ -15,7 +15,7 @@ use Rattle.guide.specs.declared.Lane.the-variants.{Plain, Marked, Up}
 use Rattle.guide.specs.Layout.{Table, trees-of}
 use Rattle.guide.specs.Trees.{Tree, plain, marked, ring, Guide, Vertex, entry-at, TreeHop, tree-edge, tree-leave, Sound, root, child, marked-seed, ring-seed, Row, Chain, arrived, further, Good}
 use Rattle.judge.specs.declared.ring.Ring.{Ring}
-use Rattle.judge.specs.Tables.{Others}
+use Rattle.judge.specs.Tables.{Kept}
 use Rattle.judge.specs.Rows.{HopBy, on, by, HopMarkedBy, on!, by!, Rooted, twig, at-entry, from-row, from-one, Behind}
 use Rattle.judge.specs.Rows.{root as rooted}
 use Rattle.judge.specs.Known.{known, Traced, outermost, by-box, Knows}
@@ -24,7 +24,6 @@ use Rattle.judge.proofs.Fills.{came}
 use Rattle.judge.proofs.Sows.{by-marked}
 use Rattle.judge.proofs.Knowing.{known-reached}
 use Rattle.judge.proofs.Pointing.{pointed-below}
-use Rattle.judge.proofs.Rings.{known-kept}
 
 add-one : (n : ℕ) → n + 1 ≡ suc n
 add-one n = omega arith
@@ -135,30 +134,31 @@ knows-falls m L T S e K j z l k = go (K .sound j (omega arith) k)
     go (by-box a b c) = (L .inner _ _ j c .0, a)
 
 -- a search of the last row changes nothing that is known
-pub knows-last : (m : Meaning) (L : Lawful m) (T T' : Table) (S : ℕ) → S ≡ m .structures → Others T T' Plain S → Knows m (m .structures) T → Knows m (m .structures) T'
-knows-last m L T T' S e f K =
+pub knows-last : (m : Meaning) (L : Lawful m) (T T' : Table) (S : ℕ) → m .large ≡ false → S ≡ m .structures → Kept S T T' → Knows m (m .structures) T → Knows m (m .structures) T'
+knows-last m L T T' S fits e f K =
     record {
-      top = same 0 ∙ K .top;
-      sound = λ j l k. sound j l (K .sound j l (sym (same j) ∙ k));
-      below = λ i b j l k r q. same j ∙ K .below i b j l (sym (same i) ∙ k) (sym (plain-kept i b l) ∙ r) q;
+      top = same 0 (omega (arith, L .sized fits .0)) ∙ K .top;
+      sound = λ j l k. sound j l (K .sound j l (sym (same j l) ∙ k));
+      below = λ i b j l k r q. same j (L .inner i b j q .1) ∙ K .below i b j l (sym (same i l) ∙ k) (sym (plain-kept i b l) ∙ r) q;
     }
   where
-    up-kept : (j : ℕ) → T' Up j 0 ≡ T Up j 0
-    up-kept = known-kept T T' S f
+    up-kept : (j : ℕ) → j < m .structures → T' Up j 0 ≡ T Up j 0
+    up-kept j l = f Up j 0 (λ z. omega arith)
 
-    same : (j : ℕ) → known T' j ≡ known T j
-    same j = ap (λ x. x .reached) (up-kept j)
+    same : (j : ℕ) → j < m .structures → known T' j ≡ known T j
+    same j l = ap (λ x. x .reached) (up-kept j l)
 
     plain-kept : (i b : ℕ) → i < m .structures → T' Plain i b .reached ≡ T Plain i b .reached
-    plain-kept i b l = ap (λ x. x .reached) (f Plain i b (λ z. omega (arith, z .1)))
+    plain-kept i b l = ap (λ x. x .reached) (f Plain i b (λ z. omega arith))
 
     sound : (j : ℕ) → j < m .structures → Traced m T j → Traced m T' j
     sound j l (outermost z) = outermost z
     sound j l (by-box a b c) =
         let i = T Up j 0 .from in
         let v = T Up j 0 .via in
-        let p = ap (λ x. x .from) (up-kept j) in
-        let q = ap (λ x. x .via) (up-kept j) in
-        by-box (ap (known T') p ∙ same i ∙ a)
-        (ap (λ n. T' Plain n (T' Up j 0 .via) .reached) p ∙ ap (λ n. T' Plain i n .reached) q ∙ plain-kept i v (omega (arith, L .inner i v j c .0)) ∙ b)
+        let p = ap (λ x. x .from) (up-kept j l) in
+        let q = ap (λ x. x .via) (up-kept j l) in
+        let i< : i < m .structures = omega (arith, L .inner i v j c .0) in
+        by-box (ap (known T') p ∙ same i i< ∙ a)
+        (ap (λ n. T' Plain n (T' Up j 0 .via) .reached) p ∙ ap (λ n. T' Plain i n .reached) q ∙ plain-kept i v i< ∙ b)
         (ap (λ n. m .place n (T' Up j 0 .via)) p ∙ ap (m .place i) q ∙ c)

@@ -1,19 +1,18 @@
 -- From what the searches found to the verdict.
 -- Assumes nothing.
-use mathlib.Core.Path.{_≡_, refl, sym, ap, _∙_}
-use mathlib.Core.Bool.{Bool, true, false, cond}
+use mathlib.Core.Path.{_≡_, sym, ap, _∙_}
+use mathlib.Core.Bool.{Bool, false, cond}
 use mathlib.Core.List.{List}
-use Prim.Native.Nat.{ℕ, _+_, _*_, _≤_, _<_}
+use Prim.Native.Nat.{ℕ, _+_, _*_, _≤_}
 use lib.Dec.{ltb}
-use Rattle.std.proofs.shelf.Tests.{le-ltb, lt-ltb, both-ways}
+use Rattle.std.proofs.shelf.Tests.{le-ltb}
 use Rattle.std.specs.Options.{isSome}
 use Rattle.std.specs.declared.option.Option.{Option}
 use Rattle.std.specs.declared.option.Option.the-variants.{Some, None}
 use Rattle.hierarchy.specs.Meaning.{Meaning, Lawful}
 use Rattle.hierarchy.specs.Flat.{Reaches, Recurs}
-use Rattle.hierarchy.specs.declared.refusal.Refusal.{Refusal}
 use Rattle.hierarchy.specs.declared.refusal.Refusal.the-variants as refusal
-use Rattle.theory.specs.Hops.{MarkedNode, MarkedRound}
+use Rattle.theory.specs.Hops.{MarkedNode}
 use Rattle.theory.proofs.Recurring.{marking, recurring}
 use Rattle.guide.specs.declared.GuideRecord.{GuideRecord}
 use Rattle.judge.specs.declared.FoundMark.{FoundMark}
@@ -24,14 +23,6 @@ use Rattle.judge.proofs.Knowing.{yes-is, no-is}
 -- ---- refusals
 need-at : (m : Meaning) (s p : ℕ) → s ≡ m .structures → p ≡ m .places → (s + 1) * p ≡ guide-need m
 need-at m s p e f = ap (λ k. (k + 1) * p) e ∙ ap (λ k. (m .structures + 1) * k) f
-
-pub refused-large : (m : Meaning) (n : ℕ) → m .large ≡ true → Some refusal.TooLarge ≡ judge-refusal m n
-refused-large m n e = sym (ap (λ b. cond b (Some refusal.TooLarge) (cond (ltb n (guide-need m)) (Some refusal.TooLittleMemory) None)) e)
-
-pub refused-short : (m : Meaning) (n s p : ℕ) → m .large ≡ false → s ≡ m .structures → p ≡ m .places → n < (s + 1) * p → Some refusal.TooLittleMemory ≡ judge-refusal m n
-refused-short m n s p l e f h =
-    sym (ap (λ b. cond b (Some refusal.TooLarge) (cond (ltb n (guide-need m)) (Some refusal.TooLittleMemory) None)) l
-    ∙ ap (λ b. cond b (Some refusal.TooLittleMemory) None) (ap (ltb n) (sym (need-at m s p e f)) ∙ lt-ltb n ((s + 1) * p) h))
 
 pub not-refused : (m : Meaning) (n s p : ℕ) → m .large ≡ false → s ≡ m .structures → p ≡ m .places → (s + 1) * p ≤ n → None ≡ judge-refusal m n
 not-refused m n s p l e f h =

@@ -1,23 +1,22 @@
 -- What is known is reached, and what is reached is known in the end.
 -- Assumes nothing.
 use mathlib.Core.Path.{_≡_, refl, sym, ap, subst, _∙_, fun-ext}
-use mathlib.Core.Bool.{Bool, true, false, cond}
+use mathlib.Core.Bool.{true, false}
 use mathlib.Core.Logic.{_⊎_, inl, inr}
 use Prim.Native.Nat.{ℕ, zero, suc, _+_, _≤_, _<_}
 use native.Mathlib.Omega.{arith}
 use Rattle.std.proofs.shelf.Tests.{cases-eq, both-ways}
 use Rattle.hierarchy.specs.Meaning.{Meaning, box, Lawful}
-use Rattle.theory.specs.Hops.{Hops, Reached, top, MarkedNode}
+use Rattle.theory.specs.Hops.{Reached, top, MarkedNode}
 use Rattle.theory.specs.Hops.{by-box as through-box}
 use Rattle.theory.proofs.Paths.{box-not-absent, node-not-absent}
 use Rattle.guide.specs.declared.Entry.{Entry}
-use Rattle.guide.specs.declared.Lane.{Lane}
 use Rattle.guide.specs.declared.Lane.the-variants.{Plain, Marked, Up}
 use Rattle.guide.specs.Layout.{Table}
 use Rattle.judge.specs.Tables.{Put}
-use Rattle.judge.specs.Spread.{child, or-entry}
+use Rattle.judge.specs.Spread.{child}
 use Rattle.judge.specs.Rows.{Behind}
-use Rattle.judge.specs.Known.{known, OnlyUp, NamedBy, ToldBy, Shown, Traced, outermost, by-box, Knows, Decides, MarkIn}
+use Rattle.judge.specs.Known.{known, OnlyUp, NamedBy, ToldBy, Shown, Traced, outermost, by-box, Knows, MarkIn, Decides}
 use Rattle.judge.proofs.Stays.{both-same}
 
 pub plain-not-up : Plain ≡ Up → ⊥
@@ -40,44 +39,8 @@ kept : (T T' : Table) {X : Type 0} (j : ℕ) → (T' Up j 0 ≡ T Up j 0) ⊎ ((
 kept T T' j (inl e) h = e
 kept T T' j (inr z) h = absurd (both-ways _ (z .0) h)
 
--- ---- one box
-module _ (m : Meaning) (L : Lawful m) (i b : ℕ) where
-  pub told-none : (T : Table) → ((j : ℕ) → T Plain i b .reached ≡ true → m .place i b ≡ box j → ⊥) → ToldBy m i b T T
-  told-none T f = record { rest = λ c r u n. refl; each = λ j. inl refl; all = λ j r q. absurd (f j r q) }
-
-  pub told-one : {T T' : Table} {x : Entry} (j : ℕ) → m .place i b ≡ box j → T Plain i b .reached ≡ true → x ≡ child i b 0 → Put T T' Up j 0 (or-entry (T Up j 0) x) → ToldBy m i b T T'
-  told-one {T} {T'} {x} j q r e P = record { rest = only-put P; each = λ k. each k (cases-eq k j); all = λ k r' q'. all k (cc-box q q') }
-    where
-      cc-box : {k : ℕ} → m .place i b ≡ box j → m .place i b ≡ box k → k ≡ j
-      cc-box f g = cc
-
-      or-known : (y : Entry) → ((or-entry y x ≡ y) × (y .reached ≡ true)) ⊎ ((y .reached ≡ false) × (or-entry y x ≡ child i b 0))
-      or-known y = go (y .reached) refl
-        where
-          go : (t : Bool) → y .reached ≡ t → ((cond t y x ≡ y) × (t ≡ true)) ⊎ ((t ≡ false) × (cond t y x ≡ child i b 0))
-          go true h = inl (refl, refl)
-          go false h = inr (refl, e)
-
-      each : (k : ℕ) → (k ≡ j) ⊎ (k ≡ j → ⊥) → (T' Up k 0 ≡ T Up k 0) ⊎ ((known T k ≡ false) × NamedBy m T i b k (T' Up k 0))
-      each k (inr n) = inl (P .others Up k 0 (λ z. n (z .1)))
-      each k (inl s) = subst (λ k. (T' Up k 0 ≡ T Up k 0) ⊎ ((known T k ≡ false) × NamedBy m T i b k (T' Up k 0))) (sym s) (go (or-known (T Up j 0)))
-        where
-          go : ((or-entry (T Up j 0) x ≡ T Up j 0) × (known T j ≡ true)) ⊎ ((known T j ≡ false) × (or-entry (T Up j 0) x ≡ child i b 0)) → (T' Up j 0 ≡ T Up j 0) ⊎ ((known T j ≡ false) × NamedBy m T i b j (T' Up j 0))
-          go (inl z) = inl (P .here ∙ z .0)
-          go (inr z) = inr (z .0, record { is = P .here ∙ z .1; reached = r; named = q })
-
-      all : (k : ℕ) → k ≡ j → known T' k ≡ true
-      all k s = ap (known T') s ∙ ap (λ y. y .reached) (P .here) ∙ go (or-known (T Up j 0))
-        where
-          go : ((or-entry (T Up j 0) x ≡ T Up j 0) × (known T j ≡ true)) ⊎ ((known T j ≡ false) × (or-entry (T Up j 0) x ≡ child i b 0)) → or-entry (T Up j 0) x .reached ≡ true
-          go (inl z) = ap (λ y. y .reached) (z .0) ∙ z .1
-          go (inr z) = ap (λ y. y .reached) (z .1)
-
 -- ---- all boxes of one structure
 module _ (m : Meaning) (i : ℕ) where
-  pub shown-none : (T : Table) → Shown m i 0 T T
-  shown-none T = record { rest = λ c r u n. refl; each = λ j. inl refl; below = λ b j h. absurd (omega arith) }
-
   pub shown-more : {T T' T'' : Table} (n : ℕ) → Shown m i n T T' → ToldBy m i n T' T'' → Shown m i (n + 1) T T''
   shown-more {T} {T'} {T''} n X Y = record { rest = only-trans (X .rest) (Y .rest); each = λ j. each j (X .each j) (Y .each j); below = λ b j. below b j (cases-eq b n) }
     where

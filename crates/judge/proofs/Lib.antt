@@ -11,4 +11,8 @@ pub mod Rings
 pub mod Pointing
 pub mod Guides
 pub mod Judging
+pub mod Fresh
+pub mod Orders
+pub mod Sweeps
+pub mod Visits
 pub mod Piles

@@ -8,13 +8,13 @@ use native.Mathlib.Omega.{arith}
 use lib.ListN.{length, getD, set}
 use lib.Seq.{getD-set-same, getD-set-other}
 use lib.Dec.{ltb}
-use Rattle.std.proofs.shelf.Tests.{lt-ltb, ltb-true, ltb-false, cases-bool, cases-eq, le-ltb, cases-lt, both-ways}
+use Rattle.std.proofs.shelf.Tests.{lt-ltb, ltb-true, cases-eq, le-ltb, cases-lt, both-ways}
 use Rattle.std.proofs.shelf.Bits.{div-mul-add, mod-mul-add, mul-le}
 use Rattle.guide.specs.declared.Lane.{Lane}
 use Rattle.guide.specs.declared.Lane.the-variants.{Plain, Marked, Up}
 use Rattle.guide.specs.declared.Entry.{Entry}
 use Rattle.guide.specs.declared.GuideRecord.{GuideRecord}
-use Rattle.guide.specs.Layout.{blank, blank-record, lane-of, Table, look, aim-of}
+use Rattle.guide.specs.Layout.{blank, blank-record, lane-of, look, aim-of}
 use Rattle.judge.specs.Tables.{Stands, Others, Put, with-lane}
 use Rattle.judge.specs.Ring.{Aimed}
 

@@ -2,11 +2,11 @@
 -- Assumes nothing.
 use mathlib.Core.Path.{_≡_, refl, sym, ap, subst, _∙_}
 use mathlib.Core.Bool.{Bool, true, false, _&&_, _||_}
-use mathlib.Core.Logic.{_≢_, _⊎_, inl, inr}
+use mathlib.Core.Logic.{_⊎_, inl, inr}
 use Prim.Native.Nat.{ℕ, _+_, _≤_, _<_}
 use native.Mathlib.Omega.{arith}
 use Rattle.std.proofs.shelf.Tests.{cases-eq, both-ways, and-parts, and-from, or-cases, or-left, or-right}
-use Rattle.hierarchy.specs.Meaning.{Meaning, absent, node, box, Lawful}
+use Rattle.hierarchy.specs.Meaning.{Meaning, absent, box, Lawful}
 use Rattle.theory.specs.Hops.{PassMarked, HopMarked, over!, through!, Hops, HopPass, at-end, on-way}
 use Rattle.theory.proofs.Paths.{same-box, node-not-box, node-not-absent, box-not-absent}
 use Rattle.theory.proofs.Passing.{marked-pass→hops, hops→marked-pass}
@@ -49,14 +49,14 @@ module _ (s : Site) (Q : Start) where
     where
       go : (u : ℕ) → (here T' s u ≡ here T s u) ⊎ ((here T s u .reached ≡ false) × (here T' s u ≡ seed-entry v e d) × (f u ≡ true)) → (here T' s u ≡ here T s u) ⊎ ((here T s u .reached ≡ false) × Seed Q u (here T' s u))
       go u (inl k) = inl k
-      go u (inr k) = inr (k .0, moved (k .1) (record { reached = refl; todo = refl; why = why u (k .2) }))
+      go u (inr k) = inr (k .0, moved (k .1) (record { reached = refl; waiting = refl; why = why u (k .2) }))
 
   pub sown-map : (R : Start) {T T' : Table} → ((u : ℕ) (x : Entry) → Q u x → R u x) → Sown s Q T T' → Sown s R T T'
   sown-map R {T} {T'} g X = record { others = X .others; each = λ u. go u (X .each u) }
     where
       go : (u : ℕ) → (here T' s u ≡ here T s u) ⊎ ((here T s u .reached ≡ false) × Seed Q u (here T' s u)) → (here T' s u ≡ here T s u) ⊎ ((here T s u .reached ≡ false) × Seed R u (here T' s u))
       go u (inl e) = inl e
-      go u (inr z) = inr (z .0, record { reached = z .1 .reached; todo = z .1 .todo; why = g u _ (z .1 .why) })
+      go u (inr z) = inr (z .0, record { reached = z .1 .reached; waiting = z .1 .waiting; why = g u _ (z .1 .why) })
 
   pub sown-seeded : (T T' : Table) → ((u : ℕ) → here T s u ≡ blank) → Sown s Q T T' → Seeded s Q T'
   sown-seeded T T' b X u = go (X .each u)
@@ -152,23 +152,6 @@ module _ (m : Meaning) (L : Lawful m) (s : Site) (v d j : ℕ) (F : Fit m s) (b 
 
 -- a node, or nothing
 module _ (m : Meaning) (L : Lawful m) (s : Site) (v d : ℕ) where
-  pub node-no : (T : Table) → m .place (s .structure) v ≡ node → m .mark (s .structure) v ≡ false → SownFrom m s v d T T
-  node-no T a y = record { sown = sown-none s _ T; all = λ w k. absurd (clash w k) }
-    where
-      clash : (w : ℕ) → HopMarked m (s .structure) v w → ⊥
-      clash w (over! k x) = both-ways _ y k
-      clash w (through! {j} {e} b p l) = node-not-box a b
-
-  pub node-yes : {T T' : Table} {x : Entry} → m .place (s .structure) v ≡ node → m .mark (s .structure) v ≡ true → x ≡ seed-entry v 0 d → Adds s x (m .edge (s .structure) v) T T' → SownFrom m s v d T T'
-  node-yes {T} {T'} {x} a y xq D = record { sown = sown-adds s _ v 0 d (m .edge (s .structure) v) (λ w t. (refl, record { depth = refl; seed = refl; hop = on! y t })) D'; all = all }
-    where
-      D' : Adds s (seed-entry v 0 d) (m .edge (s .structure) v) T T'
-      D' = subst (λ z. Adds s z (m .edge (s .structure) v) T T') xq D
-
-      all : (w : ℕ) → HopMarked m (s .structure) v w → here T' s w .reached ≡ true
-      all w (over! k t) = adds-all s (seed-entry v 0 d) (m .edge (s .structure) v) refl D' w t
-      all w (through! {j} {e} b p l) = absurd (node-not-box a b)
-
   pub absent-no : (T : Table) → m .place (s .structure) v ≡ absent → SownFrom m s v d T T
   absent-no T a = record { sown = sown-none s _ T; all = λ w k. absurd (clash w k) }
     where
@@ -178,9 +161,6 @@ module _ (m : Meaning) (L : Lawful m) (s : Site) (v d : ℕ) where
 
 -- ---- the marked hops of all reached places
 module _ (m : Meaning) (P i : ℕ) where
-  pub below-none : (T : Table) → SownBelow m (marked-site P i) 0 T T
-  below-none T = record { sown = sown-none (marked-site P i) _ T; below = λ v w h. absurd (omega arith) }
-
   same-plain : {T T' : Table} (n : ℕ) → SownBelow m (marked-site P i) n T T' → T' Plain i ≡ T Plain i
   same-plain {T} {T'} n X = row-same T T' Marked i (X .sown .others) Plain i (λ z. let e = z .0 in let o : _≡_ {A = ℕ} 0 1 = cc in omega arith)
 

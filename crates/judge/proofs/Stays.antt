@@ -1,13 +1,13 @@
 -- Rows that are right stay right where nothing is written; and the rows behind a structure, one structure at a time.
 -- Assumes nothing.
-use mathlib.Core.Path.{_≡_, refl, sym, ap, subst, _∙_, fun-ext}
+use mathlib.Core.Path.{_≡_, sym, subst, fun-ext}
 use mathlib.Core.Logic.{_⊎_, inl, inr}
-use Prim.Native.Nat.{ℕ, _+_, _≤_, _<_}
+use Prim.Native.Nat.{ℕ, _+_, _≤_}
 use native.Mathlib.Omega.{arith}
 use Rattle.std.proofs.shelf.Tests.{cases-eq}
 use Rattle.hierarchy.specs.Meaning.{Meaning}
 use Rattle.guide.specs.declared.Lane.{Lane}
-use Rattle.guide.specs.declared.Lane.the-variants.{Plain, Marked, Up}
+use Rattle.guide.specs.declared.Lane.the-variants.{Plain, Marked}
 use Rattle.guide.specs.Layout.{Table}
 use Rattle.judge.specs.Tables.{Others}
 use Rattle.judge.specs.Rows.{PlainRow, From, MarkedRow, BothRows, Behind}

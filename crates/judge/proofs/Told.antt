@@ -1,17 +1,14 @@
 -- What an answer says of the meaning. Assumes nothing.
-use mathlib.Core.Path.{_≡_, refl, sym, ap, subst, _∙_}
+use mathlib.Core.Path.{_≡_, refl}
 use mathlib.Core.Bool.{Bool, true, false, cond}
-use mathlib.Core.Logic.{_≢_}
 use Prim.Native.Nat.{ℕ}
 use native.Mathlib.Omega.{arith}
 use Rattle.hierarchy.specs.Meaning.{Meaning, Kind, absent, node, box, Lawful}
 use Rattle.hierarchy.specs.Answers.{place-told, size-told}
 use Rattle.hierarchy.specs.declared.Size.the-variants.{TooLarge, Fits}
-use Rattle.hierarchy.specs.declared.Place.{Place}
 use Rattle.hierarchy.specs.declared.Place.the-variants.{Absent, Node, Box}
-use Rattle.judge.specs.declared.table.Site.{Site}
 use Rattle.guide.specs.Layout.{Table}
-use Rattle.judge.specs.Spread.{Via, on-edge, by-exit, here}
+use Rattle.judge.specs.Spread.{Via, on-edge, by-exit}
 
 pub told-absent : (p : Kind) → Absent ≡ place-told p → p ≡ absent
 told-absent absent e = refl
@@ -44,10 +41,3 @@ fits-is m a b = by-large (m .large) (m .structures) (m .places) a b
     by-large : (t : Bool) (s p a b : ℕ) → Fits a b ≡ cond t TooLarge (Fits s p) → (t ≡ false) × (a ≡ s) × (b ≡ p)
     by-large true s p a b e = absurd (let z : _≡_ {A = ℕ} 0 1 = cc in omega arith)
     by-large false s p a b e = (refl, cc, cc)
-
-pub large-is : (m : Meaning) → TooLarge ≡ size-told m → m .large ≡ true
-large-is m = by-large (m .large) (m .structures) (m .places)
-  where
-    by-large : (t : Bool) (s p : ℕ) → TooLarge ≡ cond t TooLarge (Fits s p) → t ≡ true
-    by-large true s p e = refl
-    by-large false s p e = absurd (let z : _≡_ {A = ℕ} 0 1 = cc in omega arith)

@@ -5,14 +5,13 @@ use mathlib.Core.Logic.{_≢_, _⊎_, inl, inr}
 use Prim.Native.Nat.{ℕ, zero, suc, _+_, _≤_, _<_}
 use native.Mathlib.Omega.{arith}
 use Rattle.std.proofs.shelf.Tests.{cases-bool, cases-eq, both-ways}
-use Rattle.hierarchy.specs.Meaning.{Meaning, Lawful}
-use Rattle.guide.specs.declared.Entry.{Entry}
+use Rattle.hierarchy.specs.Meaning.{Meaning}
 use Rattle.judge.specs.declared.table.Site.{Site}
 use Rattle.guide.specs.Layout.{Table}
-use Rattle.judge.specs.Tables.{Others, Put}
-use Rattle.judge.specs.Spread.{Via, Apart, here, child, Child, Grows, Expanded, finished, Fit}
-use Rattle.judge.specs.Search.{undone, Ranked, Origin, old, new, Closed, Open, Spreads, Orderly, Turned, NothingOpen}
-use Rattle.judge.proofs.Grow.{others-refl, others-trans, others-sym, via-move, grows-kept, grows-reached}
+use Rattle.judge.specs.Tables.{Others}
+use Rattle.judge.specs.Spread.{Via, here, Child, finished, Fit}
+use Rattle.judge.specs.Search.{missing, undone, Ranked, Origin, old, new, Closed, Open, Spreads, Orderly, Turned, NothingOpen}
+use Rattle.judge.proofs.Grow.{others-trans, others-sym, via-move, grows-kept, grows-reached}
 
 abbrev one : Bool → ℕ
 one b = cond b 0 1
@@ -20,28 +19,35 @@ one b = cond b 0 1
 abbrev more : Bool → ℕ
 more b = cond b 1 0
 
-pub undone-same : (s : Site) (T T' : Table) (n : ℕ) → ((u : ℕ) → u < n → here T' s u .done ≡ here T s u .done) → undone T' s n ≡ undone T s n
-undone-same s T T' zero f = refl
-undone-same s T T' (suc n) f =
-    let a = ap one (f n (omega arith)) in
-    let b = undone-same s T T' n (λ u h. f u (omega arith)) in
+pub missing-same : (f g : ℕ → Bool) (n : ℕ) → ((u : ℕ) → u < n → g u ≡ f u) → missing g n ≡ missing f n
+missing-same f g zero h = refl
+missing-same f g (suc n) h =
+    let a = ap one (h n (omega arith)) in
+    let b = missing-same f g n (λ u l. h u (omega arith)) in
     omega (arith, a, b)
 
-pub undone-less : (s : Site) (T T' : Table) (v n : ℕ) → v < n → here T s v .done ≡ false → here T' s v .done ≡ true → ((u : ℕ) → u ≢ v → here T' s u .done ≡ here T s u .done) →
-    undone T s n ≡ undone T' s n + 1
-undone-less s T T' v zero h a b f = absurd (omega arith)
-undone-less s T T' v (suc n) h a b f = go (λ l. undone-less s T T' v n l a b f) (cases-eq n v)
+pub missing-less : (f g : ℕ → Bool) (v n : ℕ) → v < n → f v ≡ false → g v ≡ true → ((u : ℕ) → u ≢ v → g u ≡ f u) → missing f n ≡ missing g n + 1
+missing-less f g v zero h a b k = absurd (omega arith)
+missing-less f g v (suc n) h a b k = go (λ l. missing-less f g v n l a b k) (cases-eq n v)
   where
-    go : (v < n → undone T s n ≡ undone T' s n + 1) → (n ≡ v) ⊎ (n ≡ v → ⊥) → undone T s (suc n) ≡ undone T' s (suc n) + 1
+    go : (v < n → missing f n ≡ missing g n + 1) → (n ≡ v) ⊎ (n ≡ v → ⊥) → missing f (suc n) ≡ missing g (suc n) + 1
     go rec (inl e) =
-        let p = ap one (ap (λ k. here T s k .done) e ∙ a) in
-        let q = ap one (ap (λ k. here T' s k .done) e ∙ b) in
-        let r = undone-same s T T' n (λ u l. f u (λ z. omega arith)) in
+        let p = ap one (ap f e ∙ a) in
+        let q = ap one (ap g e ∙ b) in
+        let r = missing-same f g n (λ u l. k u (λ z. omega arith)) in
         omega (arith, p, q, r)
     go rec (inr x) =
-        let p = ap one (f n x) in
+        let p = ap one (k n x) in
         let r = rec (omega arith) in
         omega (arith, p, r)
+
+pub missing-le : (f : ℕ → Bool) (n : ℕ) → missing f n ≤ n
+missing-le f zero = omega arith
+missing-le f (suc n) = go (f n) (missing-le f n)
+  where
+    go : (b : Bool) → missing f n ≤ n → cond b 0 1 + missing f n ≤ suc n
+    go true h = omega arith
+    go false h = omega arith
 
 module _ (m : Meaning) (s : Site) (v : ℕ) {T T' : Table} (F : Fit m s) (O : Orderly m s T) (V : Open T s v) (X : Turned m s v T T') where
   -- what is reached is kept, but that it may be done
@@ -88,13 +94,13 @@ module _ (m : Meaning) (s : Site) (v : ℕ) {T T' : Table} (F : Fit m s) (O : Or
 
   pub turn-undone : undone T s (s .places) ≡ undone T' s (s .places) + 1
   turn-undone =
-      undone-less s T T' v (s .places) (V .inside) (V .todo) (done-same v ∙ mid-done) (λ u n. done-same u ∙ ap (λ x. x .done) (X .marks .rest u n))
+      missing-less (λ k. here T s k .done) (λ k. here T' s k .done) v (s .places) (V .inside) (V .waiting) (done-same v ∙ mid-done) (λ u n. done-same u ∙ ap (λ x. x .done) (X .marks .rest u n))
 
   pub turn-ranked : (k : ℕ) → Ranked k s T → Ranked k s T'
   turn-ranked k R u h = go (X .grows .each u) (cases-eq u v)
     where
       at-v : here T s v .depth + undone T s (s .places) ≤ k
-      at-v = let a = ap more (V .todo) in omega (arith, R v (V .reached), a)
+      at-v = let a = ap more (V .waiting) in omega (arith, R v (V .reached), a)
 
       go : (here T' s u ≡ here (X .mid) s u) ⊎ Child m s v (X .mid) u (here T' s u) → (u ≡ v) ⊎ (u ≡ v → ⊥) → here T' s u .depth + undone T' s (s .places) + cond (here T' s u .done) 1 0 ≤ k
       go (inl e) (inl q) =
@@ -146,9 +152,6 @@ module _ (m : Meaning) (s : Site) (v : ℕ) {T T' : Table} (F : Fit m s) (O : Or
           let d : here T' s u .depth ≡ here T' s v .depth + 1 = ap (λ x. x .depth) (k .is) ∙ ap (λ x. x .depth + 1) (mid-kept v) ∙ sym (ap (λ x. x .depth + 1) (turn-kept v (V .reached))) in
           new (ap (λ x. x .from) (k .is)) (ap (λ x. x .via) (k .is)) (ap (λ x. x .seed) (k .is)) (turn-reached v (V .reached)) d
           (via-move m s (F .apart) (others-sym (others-trans (Y .others) (X .marks .others))) (k .hop))
-
-pub spreads-none : (m : Meaning) (s : Site) (T : Table) → Spreads m s T T
-spreads-none m s T = record { others = others-refl T (s .lane) (s .row); kept = λ u h. refl; each = λ u h. old h; ranked = λ k R. R }
 
 pub all-closed : (m : Meaning) (s : Site) (T : Table) → Orderly m s T → NothingOpen T s → Closed m s T
 all-closed m s T O N u e w h k = O .closed u e w (N u h) k

@@ -3,7 +3,7 @@
 use mathlib.Core.Path.{_≡_}
 use mathlib.Core.Bool.{Bool, true, false}
 use mathlib.Core.Logic.{_⊎_}
-use Prim.Native.Nat.{ℕ, _+_, _≤_, _<_}
+use Prim.Native.Nat.{ℕ, _<_}
 use Rattle.hierarchy.specs.Meaning.{Meaning, box}
 use Rattle.theory.specs.Hops.{Hops}
 use Rattle.guide.specs.declared.Entry.{Entry}

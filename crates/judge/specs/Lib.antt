@@ -6,4 +6,5 @@ pub mod Seeds
 pub mod Known
 pub mod Ring
 pub mod Verdicts
+pub mod Nested
 pub mod Piles

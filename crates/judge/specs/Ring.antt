@@ -1,7 +1,7 @@
 -- The ring: a marked hop from a place and hops back to it, and the way there from structure 0.
 -- Assumes nothing.
 use mathlib.Core.Path.{_≡_}
-use mathlib.Core.Bool.{Bool, true, false}
+use mathlib.Core.Bool.{true}
 use mathlib.Core.List.{List}
 use mathlib.Core.Logic.{_≢_}
 use Prim.Native.Nat.{ℕ, _+_, _<_}
@@ -33,17 +33,12 @@ pub record RingRow (m : Meaning) (i u : ℕ) (row : ℕ → Entry) : Type 0 wher
   pub filled : Filled m i (from-one m i u 1) (m .places + 1) row
   pub back : row u .reached ≡ true
 
--- whether the place u has a ring; if so, the row has it
-pub record RingAt (m : Meaning) (i u : ℕ) (row : ℕ → Entry) (r : Bool) : Type 0 where
-  pub sure : r ≡ true → RingRow m i u row
-  pub never : r ≡ false → Back m i u → ⊥
-
 -- the place u of structure i is reached, and its ring is in the row behind the structures' rows
 pub record Ringed (m : Meaning) (T : Table) (i u : ℕ) : Type 0 where
   pub come : T Plain i u .reached ≡ true
   pub row : RingRow m i u (T Plain (m .structures))
 
--- the first place of structure i that has a ring
+-- a place of structure i that has a ring
 abbrev pub RingIn : Meaning → ℕ → Table → Option ℕ → Type 0
 RingIn m i T (Some u) = Ringed m T i u
 RingIn m i T None = (u : ℕ) → Hops m i (m .entry i) u → Back m i u → ⊥

@@ -1,7 +1,7 @@
 -- What a finished row of the guide says, in terms of the hierarchy alone.
 -- Assumes nothing.
 use mathlib.Core.Path.{_≡_}
-use mathlib.Core.Bool.{Bool, true, false}
+use mathlib.Core.Bool.{true, false}
 use mathlib.Core.Logic.{_↔_}
 use Prim.Native.Nat.{ℕ, _+_, _≤_, _<_}
 use Rattle.hierarchy.specs.Meaning.{Meaning, box}

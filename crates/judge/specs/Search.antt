@@ -15,7 +15,7 @@ use Rattle.judge.specs.Spread.{Via, here, Grows, Expanded, finished}
 pub record Open (T : Table) (s : Site) (u : ℕ) : Type 0 where
   pub inside : u < s .places
   pub reached : here T s u .reached ≡ true
-  pub todo : here T s u .done ≡ false
+  pub waiting : here T s u .done ≡ false
 
 abbrev pub NothingOpen : Table → Site → Type 0
 NothingOpen T s = (u : ℕ) → here T s u .reached ≡ true → here T s u .done ≡ true
@@ -31,10 +31,14 @@ pub record Turned (m : Meaning) (s : Site) (v : ℕ) (T T' : Table) : Type 0 whe
   pub grows : Grows m s v mid T'
   pub all : Expanded m s v mid T'
 
+-- how many of the first n numbers f leaves out
+abbrev pub missing : (ℕ → Bool) → ℕ → ℕ
+missing f zero = 0
+missing f (suc n) = cond (f n) 0 1 + missing f n
+
 -- how many of the first n are not done
 abbrev pub undone : Table → Site → ℕ → ℕ
-undone T s zero = 0
-undone T s (suc n) = cond (here T s n .done) 0 1 + undone T s n
+undone T s n = missing (λ k. here T s k .done) n
 
 -- no place is deeper than k allows for, each place still to be done leaving room for one more
 abbrev pub Ranked : ℕ → Site → Table → Type 0

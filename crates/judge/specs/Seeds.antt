@@ -1,9 +1,9 @@
 -- Seeds, with which a search starts, and what sowing them has made of a row.
 -- Assumes nothing.
 use mathlib.Core.Path.{_≡_}
-use mathlib.Core.Bool.{Bool, true, false}
+use mathlib.Core.Bool.{true, false}
 use mathlib.Core.Logic.{_⊎_}
-use Prim.Native.Nat.{ℕ, _+_, _≤_, _<_}
+use Prim.Native.Nat.{ℕ, _<_}
 use Rattle.hierarchy.specs.Meaning.{Meaning}
 use Rattle.theory.specs.Hops.{HopMarked, Hops}
 use Rattle.guide.specs.declared.Entry.{Entry}
@@ -26,7 +26,7 @@ seed-entry v e d = record { reached = true; done = false; depth = d; from = v; v
 -- an entry with which a search starts
 pub record Seed (Q : Start) (u : ℕ) (x : Entry) : Type 0 where
   pub reached : x .reached ≡ true
-  pub todo : x .done ≡ false
+  pub waiting : x .done ≡ false
   pub why : Q u (finished x)
 
 -- a row with starts only

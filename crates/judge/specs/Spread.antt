@@ -3,13 +3,13 @@
 use mathlib.Core.Path.{_≡_}
 use mathlib.Core.Bool.{Bool, true, false, cond}
 use mathlib.Core.Logic.{_⊎_}
-use Prim.Native.Nat.{ℕ, zero, suc, _+_, _≤_, _<_}
+use Prim.Native.Nat.{ℕ, _+_, _≤_, _<_}
 use Rattle.hierarchy.specs.Meaning.{Meaning, box}
 use Rattle.guide.specs.declared.Entry.{Entry}
 use Rattle.guide.specs.declared.Lane.the-variants.{Plain}
 use Rattle.guide.specs.Layout.{Table}
 use Rattle.judge.specs.declared.table.Site.{Site}
-use Rattle.judge.specs.Tables.{Others, Put}
+use Rattle.judge.specs.Tables.{Others}
 
 -- a hop from u to w of structure i; from a box, by the exit e, which the table has as reached in the inner row
 pub data Via (m : Meaning) (T : Table) (i u e w : ℕ) : Type 0 where

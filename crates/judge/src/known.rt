@@ -2,12 +2,12 @@
 // The first box through which a structure became known is kept: the way up from a structure to structure 0.
 ghost use mathlib.Core.Path.{_≡_};
 ghost use mathlib.Core.Bool.{true, false};
-ghost use Prim.Native.Nat.{ℕ, _<_, _≤_, _+_, _*_};
+ghost use Prim.Native.Nat.{ℕ, _<_};
 ghost use Rattle.theory.specs.Hops.{MarkedNode};
 ghost use Rattle.guide.specs.Layout.{look};
-ghost use Rattle.judge.specs.Tables.{Stands};
+ghost use Rattle.judge.specs.Tables.{Stands, Ready};
 ghost use Rattle.judge.specs.Rows.{Behind};
-ghost use Rattle.judge.specs.Known.{OnlyUp, known, ToldBy, Shown, Knows, Decides, MarkIn};
+ghost use Rattle.judge.specs.Known.{OnlyUp, known, ToldBy, Shown, Knows, MarkIn, Decides};
 use crate::table::Site;
 use crate::table::child;
 use crate::table::get;
@@ -71,9 +71,7 @@ fn forget(guide: &mut [GuideRecord], structures: usize, places: usize)
 
 // Makes every reached structure known.
 pub fn know_all<B: Hierarchy>(h: &B, guide: &mut [GuideRecord], structures: usize, places: usize)
-    requires stands { ⌜ Stands (now guide) places (B·Hierarchy .meaning (now h) .structures) ⌝ }
-    requires fits { ⌜ B·Hierarchy .meaning (now h) .large ≡ false ⌝ }
-    requires places { ⌜ places ≡ B·Hierarchy .meaning (now h) .places ⌝ }
+    requires ready { ⌜ Ready (B·Hierarchy .meaning (now h)) (now guide) places ⌝ }
     requires structures { ⌜ structures ≡ B·Hierarchy .meaning (now h) .structures ⌝ }
     requires behind { ⌜ Behind (B·Hierarchy .meaning (now h)) 0 (look (now guide) places) ⌝ }
     ensures behind { λ _. ⌜ Behind (B·Hierarchy .meaning (now (h .entry))) 0 (look (now (guide .exit)) places) ⌝ }
@@ -110,9 +108,7 @@ pub fn marked_any<B: Hierarchy>(
     structures: usize,
     places: usize,
 ) -> bool
-    requires stands { ⌜ Stands (now guide) places (B·Hierarchy .meaning (now h) .structures) ⌝ }
-    requires fits { ⌜ B·Hierarchy .meaning (now h) .large ≡ false ⌝ }
-    requires places { ⌜ places ≡ B·Hierarchy .meaning (now h) .places ⌝ }
+    requires ready { ⌜ Ready (B·Hierarchy .meaning (now h)) (now guide) places ⌝ }
     requires structures { ⌜ structures ≡ B·Hierarchy .meaning (now h) .structures ⌝ }
     requires behind { ⌜ Behind (B·Hierarchy .meaning (now h)) 0 (look (now guide) places) ⌝ }
     requires knows { ⌜ Knows (B·Hierarchy .meaning (now h)) (B·Hierarchy .meaning (now h) .structures) (look (now guide) places) ⌝ }

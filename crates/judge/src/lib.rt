@@ -1,20 +1,20 @@
 // The judge: whether a marked state is reachable, and whether one can be met without end, for every hierarchy.
-// It searches each structure once, in lent memory, and never unfolds the hierarchy.
+// It searches each structure by itself, a few times, in lent memory, and never unfolds the hierarchy.
 ghost use mathlib.Core.Path.{_≡_};
 ghost use mathlib.Core.Bool.{true, false};
-ghost use Prim.Native.Nat.{ℕ, _<_, _≤_, _+_, _*_};
 ghost use lib.ListN.{length};
 ghost use Rattle.std.specs.Options.{isSome};
 ghost use Rattle.std.specs.Results.{errPart, isErr};
 ghost use Rattle.hierarchy.specs.Flat.{Reaches, Recurs};
 ghost use Rattle.guide.specs.Layout.{look};
-ghost use Rattle.judge.specs.Tables.{Stands};
+ghost use Rattle.judge.specs.Tables.{Stands, Ready};
 ghost use Rattle.judge.specs.Rows.{Behind};
 ghost use Rattle.judge.specs.Known.{Knows, Decides};
 ghost use Rattle.judge.specs.Piles.{JudgedAsPile};
 ghost use Rattle.judge.specs.Verdicts.{judge-refusal, home-of, OnVerdict, Guides, Finds};
 
 mod known;
+mod nested;
 mod ring;
 mod rows;
 mod spread;
@@ -45,6 +45,7 @@ impl FoundMark {
     }
 }
 
+// What a judgment says of the flat form of a hierarchy.
 #[derive(Drop)]
 pub struct Verdict {
     // whether a marked state is reachable
@@ -59,9 +60,7 @@ fn find_ring<B: Hierarchy>(
     structures: usize,
     places: usize,
 ) -> Option<FoundMark>
-    requires stands { ⌜ Stands (now guide) places (B·Hierarchy .meaning (now h) .structures) ⌝ }
-    requires fits { ⌜ B·Hierarchy .meaning (now h) .large ≡ false ⌝ }
-    requires places { ⌜ places ≡ B·Hierarchy .meaning (now h) .places ⌝ }
+    requires ready { ⌜ Ready (B·Hierarchy .meaning (now h)) (now guide) places ⌝ }
     requires structures { ⌜ structures ≡ B·Hierarchy .meaning (now h) .structures ⌝ }
     requires behind { ⌜ Behind (B·Hierarchy .meaning (now h)) 0 (look (now guide) places) ⌝ }
     requires knows { ⌜ Knows (B·Hierarchy .meaning (now h)) (B·Hierarchy .meaning (now h) .structures) (look (now guide) places) ⌝ }
@@ -76,7 +75,14 @@ fn find_ring<B: Hierarchy>(
     }
 }
 
-// Judges the hierarchy, in a guide of at least (structures + 1) × places records.
+// Judges the hierarchy, in a guide of at least (structures + 1) × places records:
+//
+//     let verdict = judge(&chart, guide)?;
+//     if let Some(mark) = verdict.recur {
+//         // a walk spends the mark
+//     }
+//
+// Too large a hierarchy is refused before too short a guide, and a refusal leaves the guide as it was.
 pub fn judge<B: Hierarchy>(h: &B, guide: &mut [GuideRecord]) -> Result<Verdict, Refusal>
     ensures refused { λ r. ⌜ errPart r ≡ judge-refusal (B·Hierarchy .meaning (now (h .entry))) (length (now (guide .entry))) ⌝ }
     ensures unchanged { λ r. ⌜ (isErr r ≡ true → now (guide .exit) ≡ now (guide .entry)) ⌝ }

@@ -1,14 +1,15 @@
 // The ring: a marked hop from a reached place, and hops back to that place, in a known structure.
-// It is searched in the row behind the structures' rows, for one start after another.
+// Its place is the row behind the structures' rows.
 ghost use mathlib.Core.Path.{_≡_};
 ghost use mathlib.Core.Bool.{true, false};
-ghost use Prim.Native.Nat.{ℕ, _<_, _≤_, _+_, _*_};
+ghost use Prim.Native.Nat.{_<_};
 ghost use Rattle.guide.specs.Layout.{look, aim-of};
 ghost use Rattle.guide.specs.declared.Lane.the-variants.{Plain};
-ghost use Rattle.judge.specs.Tables.{Stands, Others};
+ghost use Rattle.judge.specs.Tables.{Stands, Others, Kept, Ready};
 ghost use Rattle.judge.specs.Rows.{Behind};
 ghost use Rattle.judge.specs.Known.{known, Knows};
-ghost use Rattle.judge.specs.Ring.{RingAt, RingIn, RingAny, Falls, Points};
+ghost use Rattle.judge.specs.Ring.{Back, RingRow, RingIn, RingAny, Falls, Points};
+use crate::nested::seek;
 use crate::rows::seed_from;
 use crate::spread::spread;
 use crate::table::Site;
@@ -26,22 +27,21 @@ pub struct Ring {
     pub start: usize,
 }
 
-fn ring_at<B: Hierarchy>(
+// Draws the ring of `u`, if it has one.
+fn draw_ring<B: Hierarchy>(
     h: &B,
     guide: &mut [GuideRecord],
     structures: usize,
     places: usize,
     structure: usize,
     u: usize,
-) -> bool
-    requires stands { ⌜ Stands (now guide) places (B·Hierarchy .meaning (now h) .structures) ⌝ }
-    requires fits { ⌜ B·Hierarchy .meaning (now h) .large ≡ false ⌝ }
-    requires places { ⌜ places ≡ B·Hierarchy .meaning (now h) .places ⌝ }
+)
+    requires ready { ⌜ Ready (B·Hierarchy .meaning (now h)) (now guide) places ⌝ }
     requires structures { ⌜ structures ≡ B·Hierarchy .meaning (now h) .structures ⌝ }
     requires below { ⌜ u < places ⌝ }
     requires behind { ⌜ Behind (B·Hierarchy .meaning (now h)) 0 (look (now guide) places) ⌝ }
     ensures others { λ _. ⌜ Others (look (now (guide .entry)) places) (look (now (guide .exit)) places) Plain structures ⌝ }
-    ensures answer { λ r. ⌜ RingAt (B·Hierarchy .meaning (now (h .entry))) structure u (look (now (guide .exit)) places Plain structures) r ⌝ }
+    ensures row { λ _. ⌜ (Back (B·Hierarchy .meaning (now (h .entry))) structure u → RingRow (B·Hierarchy .meaning (now (h .entry))) structure u (look (now (guide .exit)) places Plain structures)) ⌝ }
 {
     let site = Site {
         structure,
@@ -52,10 +52,8 @@ fn ring_at<B: Hierarchy>(
     clear(guide, places, Lane::Plain, structures);
     seed_from(h, guide, site, u, 1);
     spread(h, guide, site);
-    get(guide, places, Lane::Plain, structures, u).reached
 }
 
-// Only a place that is reached after a mark can have a ring.
 fn ring_in<B: Hierarchy>(
     h: &B,
     guide: &mut [GuideRecord],
@@ -63,23 +61,20 @@ fn ring_in<B: Hierarchy>(
     places: usize,
     structure: usize,
 ) -> Option<usize>
-    requires stands { ⌜ Stands (now guide) places (B·Hierarchy .meaning (now h) .structures) ⌝ }
-    requires fits { ⌜ B·Hierarchy .meaning (now h) .large ≡ false ⌝ }
-    requires places { ⌜ places ≡ B·Hierarchy .meaning (now h) .places ⌝ }
+    requires ready { ⌜ Ready (B·Hierarchy .meaning (now h)) (now guide) places ⌝ }
     requires structures { ⌜ structures ≡ B·Hierarchy .meaning (now h) .structures ⌝ }
     requires inside { ⌜ structure < B·Hierarchy .meaning (now h) .structures ⌝ }
     requires behind { ⌜ Behind (B·Hierarchy .meaning (now h)) 0 (look (now guide) places) ⌝ }
-    ensures others { λ _. ⌜ Others (look (now (guide .entry)) places) (look (now (guide .exit)) places) Plain structures ⌝ }
+    ensures kept { λ _. ⌜ Kept structures (look (now (guide .entry)) places) (look (now (guide .exit)) places) ⌝ }
     ensures answer { λ r. ⌜ RingIn (B·Hierarchy .meaning (now (h .entry))) structure (look (now (guide .exit)) places) r ⌝ }
 {
-    for u in 0..places {
-        if get(guide, places, Lane::Marked, structure, u).reached {
-            if ring_at(h, guide, structures, places, structure, u) {
-                return Some(u);
-            }
+    match seek(h, guide, structures, places, structure) {
+        Some(u) => {
+            draw_ring(h, guide, structures, places, structure, u);
+            Some(u)
         }
+        None => None,
     }
-    None
 }
 
 // Looks for a ring in the known structures.
@@ -89,13 +84,11 @@ pub fn ring_any<B: Hierarchy>(
     structures: usize,
     places: usize,
 ) -> Option<Ring>
-    requires stands { ⌜ Stands (now guide) places (B·Hierarchy .meaning (now h) .structures) ⌝ }
-    requires fits { ⌜ B·Hierarchy .meaning (now h) .large ≡ false ⌝ }
-    requires places { ⌜ places ≡ B·Hierarchy .meaning (now h) .places ⌝ }
+    requires ready { ⌜ Ready (B·Hierarchy .meaning (now h)) (now guide) places ⌝ }
     requires structures { ⌜ structures ≡ B·Hierarchy .meaning (now h) .structures ⌝ }
     requires behind { ⌜ Behind (B·Hierarchy .meaning (now h)) 0 (look (now guide) places) ⌝ }
     requires knows { ⌜ Knows (B·Hierarchy .meaning (now h)) (B·Hierarchy .meaning (now h) .structures) (look (now guide) places) ⌝ }
-    ensures others { λ _. ⌜ Others (look (now (guide .entry)) places) (look (now (guide .exit)) places) Plain structures ⌝ }
+    ensures kept { λ _. ⌜ Kept structures (look (now (guide .entry)) places) (look (now (guide .exit)) places) ⌝ }
     ensures answer { λ r. ⌜ RingAny (B·Hierarchy .meaning (now (h .entry))) (look (now (guide .exit)) places) r ⌝ }
 {
     for i in 0..structures {

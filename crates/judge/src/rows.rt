@@ -2,11 +2,11 @@
 // They are filled from the last structure up, since a box names a later structure than its own.
 ghost use mathlib.Core.Path.{_≡_};
 ghost use mathlib.Core.Bool.{true, false, _&&_, _||_};
-ghost use Prim.Native.Nat.{ℕ, _<_, _≤_, _+_, _*_};
+ghost use Prim.Native.Nat.{_<_, _+_};
 ghost use Rattle.hierarchy.specs.Meaning.{box, node};
 ghost use Rattle.guide.specs.Layout.{look};
 ghost use Rattle.guide.specs.declared.Lane.the-variants.{Plain, Marked};
-ghost use Rattle.judge.specs.Tables.{Stands, Others};
+ghost use Rattle.judge.specs.Tables.{Stands, Others, Ready};
 ghost use Rattle.judge.specs.Spread.{Fit};
 ghost use Rattle.judge.specs.Rows.{PlainRow, From, MarkedRow, Behind};
 ghost use Rattle.judge.specs.Seeds.{seed-entry, SownFrom, SownBelow, marked-site};
@@ -25,9 +25,7 @@ use hierarchy::Hierarchy;
 use hierarchy::Place;
 
 fn plain_row<B: Hierarchy>(h: &B, guide: &mut [GuideRecord], places: usize, structure: usize)
-    requires stands { ⌜ Stands (now guide) places (B·Hierarchy .meaning (now h) .structures) ⌝ }
-    requires fits { ⌜ B·Hierarchy .meaning (now h) .large ≡ false ⌝ }
-    requires places { ⌜ places ≡ B·Hierarchy .meaning (now h) .places ⌝ }
+    requires ready { ⌜ Ready (B·Hierarchy .meaning (now h)) (now guide) places ⌝ }
     requires inside { ⌜ structure < B·Hierarchy .meaning (now h) .structures ⌝ }
     requires behind { ⌜ From (B·Hierarchy .meaning (now h)) (structure + 1) (look (now guide) places) ⌝ }
     ensures others { λ _. ⌜ Others (look (now (guide .entry)) places) (look (now (guide .exit)) places) Plain structure ⌝ }
@@ -74,7 +72,7 @@ fn met<B: Hierarchy>(h: &B, guide: &[GuideRecord], places: usize, inner: usize, 
     ensures { λ r. ⌜ r ≡ (look (now (guide .entry)) places Marked inner by .reached || (B·Hierarchy .meaning (now (h .entry)) .mark inner by && look (now (guide .entry)) places Plain inner by .reached)) ⌝ }
 {
     get(guide, places, Lane::Marked, inner, by).reached
-        || (h.look(inner, by).mark && get(guide, places, Lane::Plain, inner, by).reached)
+        || (get(guide, places, Lane::Plain, inner, by).reached && h.look(inner, by).mark)
 }
 
 fn passed_marked<B: Hierarchy>(
@@ -88,7 +86,7 @@ fn passed_marked<B: Hierarchy>(
     requires inside { ⌜ by < places ⌝ }
     ensures { λ r. ⌜ r ≡ (B·Hierarchy .meaning (now (h .entry)) .exits inner by && (look (now (guide .entry)) places Marked inner by .reached || (B·Hierarchy .meaning (now (h .entry)) .mark inner by && look (now (guide .entry)) places Plain inner by .reached))) ⌝ }
 {
-    h.is_exit(inner, by) && met(h, guide, places, inner, by)
+    met(h, guide, places, inner, by) && h.is_exit(inner, by)
 }
 
 fn seed_leaves<B: Hierarchy>(
@@ -138,9 +136,7 @@ pub fn seed_from<B: Hierarchy>(h: &B, guide: &mut [GuideRecord], site: Site, v: 
 }
 
 fn seed_all<B: Hierarchy>(h: &B, guide: &mut [GuideRecord], places: usize, structure: usize)
-    requires stands { ⌜ Stands (now guide) places (B·Hierarchy .meaning (now h) .structures) ⌝ }
-    requires fits { ⌜ B·Hierarchy .meaning (now h) .large ≡ false ⌝ }
-    requires places { ⌜ places ≡ B·Hierarchy .meaning (now h) .places ⌝ }
+    requires ready { ⌜ Ready (B·Hierarchy .meaning (now h)) (now guide) places ⌝ }
     requires inside { ⌜ structure < B·Hierarchy .meaning (now h) .structures ⌝ }
     requires behind { ⌜ Behind (B·Hierarchy .meaning (now h)) (structure + 1) (look (now guide) places) ⌝ }
     requires plain { ⌜ PlainRow (B·Hierarchy .meaning (now h)) structure (look (now guide) places Plain structure) ⌝ }
@@ -161,9 +157,7 @@ fn seed_all<B: Hierarchy>(h: &B, guide: &mut [GuideRecord], places: usize, struc
 }
 
 fn marked_row<B: Hierarchy>(h: &B, guide: &mut [GuideRecord], places: usize, structure: usize)
-    requires stands { ⌜ Stands (now guide) places (B·Hierarchy .meaning (now h) .structures) ⌝ }
-    requires fits { ⌜ B·Hierarchy .meaning (now h) .large ≡ false ⌝ }
-    requires places { ⌜ places ≡ B·Hierarchy .meaning (now h) .places ⌝ }
+    requires ready { ⌜ Ready (B·Hierarchy .meaning (now h)) (now guide) places ⌝ }
     requires inside { ⌜ structure < B·Hierarchy .meaning (now h) .structures ⌝ }
     requires behind { ⌜ Behind (B·Hierarchy .meaning (now h)) (structure + 1) (look (now guide) places) ⌝ }
     requires plain { ⌜ PlainRow (B·Hierarchy .meaning (now h)) structure (look (now guide) places Plain structure) ⌝ }
@@ -186,9 +180,7 @@ fn marked_row<B: Hierarchy>(h: &B, guide: &mut [GuideRecord], places: usize, str
 
 // Fills both lanes of every structure's row.
 pub fn fill<B: Hierarchy>(h: &B, guide: &mut [GuideRecord], structures: usize, places: usize)
-    requires stands { ⌜ Stands (now guide) places (B·Hierarchy .meaning (now h) .structures) ⌝ }
-    requires fits { ⌜ B·Hierarchy .meaning (now h) .large ≡ false ⌝ }
-    requires places { ⌜ places ≡ B·Hierarchy .meaning (now h) .places ⌝ }
+    requires ready { ⌜ Ready (B·Hierarchy .meaning (now h)) (now guide) places ⌝ }
     requires structures { ⌜ structures ≡ B·Hierarchy .meaning (now h) .structures ⌝ }
     ensures { λ _. ⌜ Behind (B·Hierarchy .meaning (now (h .entry))) 0 (look (now (guide .exit)) places) ⌝ }
 {

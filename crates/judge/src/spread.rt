@@ -1,8 +1,8 @@
 // One search of a structure's places: from what is reached, along its hops, until nothing is left to follow.
 // A box is passed by the exits that the inner structure's plain tree has reached, and by no others.
 ghost use mathlib.Core.Path.{_≡_};
-ghost use mathlib.Core.Bool.{true, false, _&&_};
-ghost use Prim.Native.Nat.{ℕ, _<_, _≤_, _+_, _*_};
+ghost use mathlib.Core.Bool.{true, _&&_};
+ghost use Prim.Native.Nat.{_<_, _≤_, _+_};
 ghost use Rattle.hierarchy.specs.Meaning.{box};
 ghost use Rattle.guide.specs.Layout.{look};
 ghost use Rattle.guide.specs.declared.Lane.the-variants.{Plain};
@@ -13,25 +13,28 @@ use crate::table::Site;
 use crate::table::child;
 use crate::table::get;
 use crate::table::put;
-use crate::table::reach_one;
 use guide::Entry;
 use guide::GuideRecord;
 use guide::Lane;
 use hierarchy::Hierarchy;
 use hierarchy::Place;
 
+// Reaches the places that `v` has an edge to. Those that are reached already need no question.
 pub fn edges<B: Hierarchy>(h: &B, guide: &mut [GuideRecord], site: Site, cell: Entry, v: usize)
     requires stands { ⌜ Stands (now guide) (site .places) (site .row) ⌝ }
     requires places { ⌜ site .places ≡ B·Hierarchy .meaning (now h) .places ⌝ }
     ensures { λ _. ⌜ Adds site cell (B·Hierarchy .meaning (now (h .entry)) .edge (site .structure) v) (look (now (guide .entry)) (site .places)) (look (now (guide .exit)) (site .places)) ⌝ }
 {
     for w in 0..site.places {
-        if h.has_edge(site.structure, v, w) {
-            reach_one(guide, site, cell, w);
+        if !get(guide, site.places, site.lane, site.row, w).reached
+            && h.has_edge(site.structure, v, w)
+        {
+            put(guide, site.places, site.lane, site.row, w, cell);
         }
     }
 }
 
+// The same for the leaves of the box `v` by the exit `by`.
 pub fn leaves_by<B: Hierarchy>(
     h: &B,
     guide: &mut [GuideRecord],
@@ -45,13 +48,16 @@ pub fn leaves_by<B: Hierarchy>(
     ensures { λ _. ⌜ Adds site cell (B·Hierarchy .meaning (now (h .entry)) .leave (site .structure) v by) (look (now (guide .entry)) (site .places)) (look (now (guide .exit)) (site .places)) ⌝ }
 {
     for w in 0..site.places {
-        if h.has_leave(site.structure, v, by, w) {
-            reach_one(guide, site, cell, w);
+        if !get(guide, site.places, site.lane, site.row, w).reached
+            && h.has_leave(site.structure, v, by, w)
+        {
+            put(guide, site.places, site.lane, site.row, w, cell);
         }
     }
 }
 
-fn passed<B: Hierarchy>(
+// Whether a box that names `inner` can be passed by `by`.
+pub fn passed<B: Hierarchy>(
     h: &B,
     guide: &[GuideRecord],
     places: usize,
@@ -62,7 +68,7 @@ fn passed<B: Hierarchy>(
     requires inside { ⌜ by < places ⌝ }
     ensures { λ r. ⌜ r ≡ (B·Hierarchy .meaning (now (h .entry)) .exits inner by && look (now (guide .entry)) places Plain inner by .reached) ⌝ }
 {
-    h.is_exit(inner, by) && get(guide, places, Lane::Plain, inner, by).reached
+    get(guide, places, Lane::Plain, inner, by).reached && h.is_exit(inner, by)
 }
 
 fn leaves<B: Hierarchy>(
@@ -141,6 +147,7 @@ pub fn spread<B: Hierarchy>(h: &B, guide: &mut [GuideRecord], site: Site)
     requires orderly { ⌜ Orderly (B·Hierarchy .meaning (now h)) site (look (now guide) (site .places)) ⌝ }
     ensures spreads { λ _. ⌜ Spreads (B·Hierarchy .meaning (now (h .entry))) site (look (now (guide .entry)) (site .places)) (look (now (guide .exit)) (site .places)) ⌝ }
     ensures closed { λ _. ⌜ Closed (B·Hierarchy .meaning (now (h .entry))) site (look (now (guide .exit)) (site .places)) ⌝ }
+    ensures orderly { λ _. ⌜ Orderly (B·Hierarchy .meaning (now (h .entry))) site (look (now (guide .exit)) (site .places)) ⌝ }
     ensures done { λ _. ⌜ NothingOpen (look (now (guide .exit)) (site .places)) site ⌝ }
 {
     while let Some(v) = pick(guide, site) {

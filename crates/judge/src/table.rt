@@ -1,7 +1,7 @@
 // The guide as a table: which tree, which row, which place. Reads and writes of single entries.
 // Everything else writes the guide through these.
 ghost use mathlib.Core.Path.{_≡_};
-ghost use Prim.Native.Nat.{ℕ, _<_, _≤_, _+_, _*_};
+ghost use Prim.Native.Nat.{ℕ, _<_};
 ghost use Rattle.guide.specs.Layout.{look, blank};
 ghost use Rattle.judge.specs.Tables.{Stands, Position, Put, Others, with-lane};
 ghost use Rattle.judge.specs.Ring.{Aimed};

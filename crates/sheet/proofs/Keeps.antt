@@ -28,7 +28,7 @@ pub record Grows (s : Sheet) (i : ℕ) (r : Structure) : Type 0 where
   pub leaves : (b e w : ℕ) → r .leave b e w ≡ true → leave-stands s r b e w ≡ true
 
 -- a fact of every structure of the sheet with structure i written
-at-each : (s : Sheet) (i : ℕ) (r : Structure) (P : ℕ → Structure → Type 0) → i < length s → P i r → ((k : ℕ) → P k (at s k)) → (k : ℕ) → P k (at (set s i r) k)
+pub at-each : (s : Sheet) (i : ℕ) (r : Structure) (P : ℕ → Structure → Type 0) → i < length s → P i r → ((k : ℕ) → P k (at s k)) → (k : ℕ) → P k (at (set s i r) k)
 at-each s i r P h here there k = ⊎-elim
     (λ e. subst (λ (j : ℕ). P j (at (set s i r) j)) (sym e) (subst (P i) (sym (getD-set-same s i r nothing h)) here))
     (λ ne. subst (P k) (sym (getD-set-other s i k r nothing ne)) (there k))
@@ -174,7 +174,7 @@ at-begun zero i = inr refl
 at-begun (suc n) zero = inl refl
 at-begun (suc n) (suc i) = at-begun n i
 
-begun-each : (n : ℕ) (P : Structure → Type 0) → P fresh → P nothing → (i : ℕ) → P (at (begun n) i)
+pub begun-each : (n : ℕ) (P : Structure → Type 0) → P fresh → P nothing → (i : ℕ) → P (at (begun n) i)
 begun-each n P a b i = ⊎-elim (λ e. subst P (sym e) a) (λ e. subst P (sym e) b) (at-begun n i)
 
 later-fresh : (n i p : ℕ) → later n i (nth (fresh .places) p) ≡ true

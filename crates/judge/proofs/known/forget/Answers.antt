@@ -1,3 +1,4 @@
+-- Nothing is known at first.
 use native.Mathlib.Omega.{arith}
 use Rattle.judge.proofs.Looks.{stands-less}
 use Rattle.judge.proofs.known.forget.Needs as need

@@ -1,3 +1,4 @@
+-- What the loop keeps.
 use Rattle.guide.specs.Layout.{look}
 use Rattle.judge.specs.Rows.{Behind}
 use Rattle.judge.specs.Known.{Knows}

@@ -1,6 +1,5 @@
-use native.Mathlib.Omega.{arith}
-use Rattle.guide.specs.Layout.{look}
-use Rattle.judge.proofs.Knowing.{shown-none, shown-more, shown-all}
+-- All reached boxes of one structure make their inner structures known.
+use Rattle.judge.proofs.Knowing.{shown-more, shown-all}
 use Rattle.judge.proofs.known.know_boxes.Needs as need
 
 pub loop-b-again : need.loop-b-again

@@ -1,3 +1,4 @@
+-- What the loop keeps.
 use Rattle.guide.specs.Layout.{look}
 use Rattle.judge.specs.Known.{Shown}
 use Rattle.judge.proofs.known.know_boxes.Given as given

@@ -1,3 +1,4 @@
+-- A reached box makes its inner structure known.
 use native.Mathlib.Omega.{arith}
 use Rattle.judge.proofs.Looks.{stands-less}
 use Rattle.judge.proofs.Told.{told-box}

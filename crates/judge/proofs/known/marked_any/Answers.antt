@@ -1,3 +1,4 @@
+-- Each known structure is asked.
 use native.Mathlib.Omega.{arith}
 use Rattle.judge.proofs.Looks.{stands-less}
 use mathlib.Core.Path.{_≡_, sym, ap, _∙_}
@@ -15,8 +16,8 @@ get-requires g c κs =
     let m = g .B·Hierarchy .meaning (c .args .h .now) in
     let L = g .B·Hierarchy .lawful (c .args .h .now) in
     record {
-      stands = stands-less _ _ (c .loop-i .i) (m .structures) (omega (arith, c .pre .structures)) (omega (arith, c .pre .stands));
-      inside = omega (arith, L .sized (c .pre .fits) .2, c .pre .places);
+      stands = stands-less _ _ (c .loop-i .i) (m .structures) (omega (arith, c .pre .structures)) (omega (arith, c .pre .ready .stands));
+      inside = omega (arith, L .sized (c .pre .ready .fits) .2, c .pre .ready .places);
     }
 
 pub returns-then-marked-in : need.returns-then-marked-in
@@ -40,4 +41,4 @@ pub returns : need.returns
 returns g c =
     let m = g .B·Hierarchy .meaning (c .args .h .now) in
     let L = g .B·Hierarchy .lawful (c .args .h .now) in
-    no-is _ (no-mark m L (look (c .args .guide .now) (c .args .places)) (c .pre .behind) (c .pre .knows) (omega (arith, L .sized (c .pre .fits) .0)) (λ i h. c .loop-i .inv i (omega (arith, c .loop-i-test .left, c .pre .structures))))
+    no-is _ (no-mark m L (look (c .args .guide .now) (c .args .places)) (c .pre .behind) (c .pre .knows) (omega (arith, L .sized (c .pre .ready .fits) .0)) (λ i h. c .loop-i .inv i (omega (arith, c .loop-i-test .left, c .pre .structures))))

@@ -1,3 +1,4 @@
+-- Each place of the structure is asked.
 use native.Mathlib.Omega.{arith}
 use Rattle.judge.proofs.Looks.{stands-less}
 use mathlib.Core.Path.{_≡_, sym, ap, _∙_}

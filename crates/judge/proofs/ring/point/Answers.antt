@@ -1,6 +1,7 @@
+-- From the home of the ring up, each structure gets the box to take as its aim.
 use mathlib.Core.Path.{_≡_, refl, sym, ap, subst, _∙_}
 use native.Mathlib.Omega.{arith}
-use Prim.Native.Nat.{ℕ, _<_}
+use Prim.Native.Nat.{_<_}
 use Rattle.guide.specs.Layout.{look, aim-of}
 use Rattle.judge.specs.Ring.{Pointed, at-home, Falls}
 use Rattle.judge.proofs.Looks.{stands-less}

@@ -1,6 +1,7 @@
+-- What the loop keeps, and why it ends.
 use mathlib.Core.Path.{_≡_}
 use mathlib.Core.Bool.{true}
-use Prim.Native.Nat.{ℕ, _<_, _≤_}
+use Prim.Native.Nat.{_≤_}
 use Rattle.guide.specs.Layout.{look, aim-of}
 use Rattle.judge.specs.Known.{known}
 use Rattle.judge.specs.Ring.{Pointed}

@@ -1,9 +1,10 @@
+-- From the last structure up, each row finds the rows behind it right.
 use native.Mathlib.Omega.{arith}
 use mathlib.Core.Path.{_≡_, subst, sym}
 use Prim.Native.Nat.{ℕ, _-_, _+_}
 use Rattle.guide.specs.Layout.{look, Table}
 use Rattle.judge.specs.Rows.{Behind}
-use Rattle.guide.specs.declared.Lane.the-variants.{Plain, Marked}
+use Rattle.guide.specs.declared.Lane.the-variants.{Plain}
 use Rattle.hierarchy.specs.Meaning.{Meaning}
 use Rattle.judge.proofs.Stays.{behind-more, behind-plain, behind-kept}
 use Rattle.judge.proofs.rows.fill.Needs as need
@@ -17,9 +18,7 @@ plain-row-requires g c κs =
     let T = look (c .loop-i .guide) (c .args .places) in
     let k = c .loop-i .i - 1 in
     record {
-      stands = omega (arith, c .pre .stands);
-      fits = c .pre .fits;
-      places = c .pre .places;
+      ready = record { stands = omega (arith, c .pre .ready .stands); fits = c .pre .ready .fits; places = c .pre .ready .places };
       inside = omega (arith, c .pre .structures, c .loop-i .inv .0);
       behind = behind-plain m (k + 1) T (at-next m T (c .loop-i .i) (k + 1) (omega arith) (c .loop-i .inv .1));
     }
@@ -31,9 +30,7 @@ marked-row-requires g c κs =
     let T₁ = look (c .plain-row .last .guide) (c .args .places) in
     let k = c .loop-i .i - 1 in
     record {
-      stands = omega (arith, c .pre .stands, c .plain-row .kept .guide);
-      fits = c .pre .fits;
-      places = c .pre .places;
+      ready = record { stands = omega (arith, c .pre .ready .stands, c .plain-row .kept .guide); fits = c .pre .ready .fits; places = c .pre .ready .places };
       inside = omega (arith, c .pre .structures, c .loop-i .inv .0);
       behind = behind-kept m T T₁ Plain k k (c .plain-row .ensures .others) (omega arith) (at-next m T (c .loop-i .i) (k + 1) (omega arith) (c .loop-i .inv .1));
       plain = c .plain-row .ensures .row;

@@ -1,3 +1,4 @@
+-- What the loop keeps, and why it ends.
 use Prim.Native.Nat.{_≤_}
 use Rattle.guide.specs.Layout.{look}
 use Rattle.judge.specs.Rows.{Behind}

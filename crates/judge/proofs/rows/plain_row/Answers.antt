@@ -1,6 +1,7 @@
+-- A search from the entry makes the plain row right.
 use mathlib.Core.Path.{_≡_, sym, ap, _∙_}
 use native.Mathlib.Omega.{arith}
-use Prim.Native.Nat.{ℕ, _<_, _+_, _≤_}
+use Prim.Native.Nat.{ℕ, _<_}
 use Rattle.hierarchy.specs.Meaning.{Meaning, Lawful}
 use Rattle.theory.proofs.Paths.{node-not-absent}
 use Rattle.guide.specs.Layout.{look}
@@ -19,14 +20,14 @@ entry-inside m L i n P h e p = omega (arith, L .within i (m .entry i) (node-not-
 pub clear-requires : need.clear-requires
 clear-requires g c κs =
     let m = g .B·Hierarchy .meaning (c .args .h .now) in
-    record { stands = stands-less _ _ (c .args .structure) (m .structures) (omega (arith, c .pre .inside)) (c .pre .stands) }
+    record { stands = stands-less _ _ (c .args .structure) (m .structures) (omega (arith, c .pre .inside)) (c .pre .ready .stands) }
 
 pub put-requires : need.put-requires
 put-requires g c κs =
     let m = g .B·Hierarchy .meaning (c .args .h .now) in
     record {
-      stands = stands-less _ _ (c .args .structure) (m .structures) (omega (arith, c .pre .inside)) (omega (arith, c .pre .stands, c .clear .kept .guide));
-      inside = entry-inside m (g .B·Hierarchy .lawful (c .args .h .now)) (c .args .structure) _ _ (c .pre .inside) (c .entry .ensures) (c .pre .places);
+      stands = stands-less _ _ (c .args .structure) (m .structures) (omega (arith, c .pre .inside)) (omega (arith, c .pre .ready .stands, c .clear .kept .guide));
+      inside = entry-inside m (g .B·Hierarchy .lawful (c .args .h .now)) (c .args .structure) _ _ (c .pre .inside) (c .entry .ensures) (c .pre .ready .places);
     }
 
 pub spread-requires : need.spread-requires
@@ -37,8 +38,8 @@ spread-requires g c κs =
     let T₂ = look (c .put .last .guide) (c .args .places) in
     let Z = plain-start m s (look (c .clear .last .guide) (c .args .places)) T₂ _ _ (c .entry .ensures) (c .clear .ensures .blank) (c .child .ensures) (c .put .ensures) in
     record {
-      stands = omega (arith, c .pre .stands, c .clear .kept .guide, c .put .kept .guide);
-      fit = plain-fit m L (c .args .places) (c .args .structure) (c .pre .fits) (c .pre .places) (c .pre .inside);
+      stands = omega (arith, c .pre .ready .stands, c .clear .kept .guide, c .put .kept .guide);
+      fit = plain-fit m L (c .args .places) (c .args .structure) (c .pre .ready .fits) (c .pre .ready .places) (c .pre .inside);
       orderly = seeded-orderly m s (at-entry m (c .args .structure)) T₂ Z (λ u h. omega (arith, seed-of m s (at-entry m (c .args .structure)) T₂ Z u h .why .0));
     }
 
@@ -52,7 +53,7 @@ returns g c =
     let T₂ = look (c .put .last .guide) (c .args .places) in
     let T₃ = look (c .spread .last .guide) (c .args .places) in
     let Z = plain-start m (plain-site (c .args .places) i) T₁ T₂ _ _ (c .entry .ensures) (c .clear .ensures .blank) (c .child .ensures) (c .put .ensures) in
-    let F = plain-fit m L (c .args .places) i (c .pre .fits) (c .pre .places) (c .pre .inside) in
+    let F = plain-fit m L (c .args .places) i (c .pre .ready .fits) (c .pre .ready .places) (c .pre .inside) in
     let f : Others T T₂ Plain i = others-trans (c .clear .ensures .others) (c .put .ensures .others) in
     record {
       others = others-trans f (c .spread .ensures .spreads .others);

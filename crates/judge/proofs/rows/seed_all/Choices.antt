@@ -1,3 +1,4 @@
+-- What the loop keeps.
 use Rattle.guide.specs.Layout.{look}
 use Rattle.judge.specs.Seeds.{SownBelow, marked-site}
 use Rattle.judge.proofs.rows.seed_all.Given as given

@@ -1,4 +1,4 @@
-use native.Mathlib.Omega.{arith}
+-- The targets of the marked hops of a place are seeds.
 use Rattle.guide.specs.Layout.{look}
 use Rattle.judge.proofs.Looks.{stands-less}
 use Rattle.judge.proofs.Told.{told-absent, told-node, told-box}

@@ -1,3 +1,4 @@
+-- The targets of the marked passes of a box are seeds.
 use native.Mathlib.Omega.{arith}
 use Rattle.guide.specs.Layout.{look}
 use Rattle.judge.proofs.Looks.{stands-less}

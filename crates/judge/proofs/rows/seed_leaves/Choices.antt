@@ -1,3 +1,4 @@
+-- What the loop keeps.
 use Rattle.guide.specs.Layout.{look}
 use Rattle.judge.specs.Seeds.{SownBy}
 use Rattle.judge.proofs.rows.seed_leaves.Given as given

@@ -1,3 +1,4 @@
+-- What the loop keeps.
 use Rattle.guide.specs.Layout.{look}
 use Rattle.judge.specs.Spread.{Adding}
 use Rattle.judge.proofs.spread.edges.Given as given

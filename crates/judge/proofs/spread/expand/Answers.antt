@@ -1,3 +1,4 @@
+-- The hops of a place are its edges if it is a node, and its leaves if it is a box.
 use mathlib.Core.Path.{_≡_, refl, subst}
 use mathlib.Core.Bool.{true}
 use Prim.Native.Nat.{ℕ, _+_}
@@ -6,7 +7,6 @@ use Rattle.guide.specs.declared.Entry.{Entry}
 use Rattle.judge.specs.declared.table.Site.{Site}
 use Rattle.guide.specs.Layout.{Table}
 use Rattle.judge.specs.Spread.{here, child, Adds, Grows, on-edge}
-use native.Mathlib.Omega.{arith}
 use Rattle.judge.proofs.Looks.{stands-less}
 use Rattle.judge.proofs.Grow.{grows-refl, adds-grows, adds-all}
 use Rattle.judge.proofs.Told.{told-absent, told-node, told-box, absent-hops, node-hops}

@@ -1,10 +1,7 @@
-use mathlib.Core.Path.{_≡_, sym, ap, _∙_}
+-- A box is left by each exit that its inner entry reaches.
 use native.Mathlib.Omega.{arith}
-use Prim.Native.Nat.{_+_}
-use Rattle.guide.specs.Layout.{look}
-use Rattle.judge.specs.Spread.{here}
 use Rattle.judge.proofs.Looks.{stands-less}
-use Rattle.judge.proofs.Grow.{left-none, left-no, left-yes, left-hops, left-all, grows-reached, grows-kept}
+use Rattle.judge.proofs.Grow.{left-no, left-yes, left-all}
 use Rattle.judge.proofs.spread.leaves.Needs as need
 use Rattle.judge.proofs.spread.leaves.Needs.{then-passed, else-passed}
 

@@ -1,9 +1,11 @@
-use mathlib.Core.Path.{_≡_, sym}
+-- Every leave by one exit is followed to a place that is not reached, and nothing else is written.
+use mathlib.Core.Path.{sym, ap, _∙_}
 use native.Mathlib.Omega.{arith}
+use Rattle.std.proofs.shelf.Tests.{not-true, not-false}
 use Rattle.guide.specs.Layout.{look}
-use Rattle.judge.proofs.Grow.{adding-none, adding-yes, adding-no, adding-all}
+use Rattle.judge.proofs.Grow.{adding-none, adding-old, adding-new, adding-no, adding-all}
 use Rattle.judge.proofs.spread.leaves_by.Needs as need
-use Rattle.judge.proofs.spread.leaves_by.Needs.{then-has-leave, else-has-leave}
+use Rattle.judge.proofs.spread.leaves_by.Needs.{then-not-get·then-has-leave, else-not-get, else-not-get·by·then-not-get·else-has-leave, else-not-get·by·else-not-get}
 
 pub loop-w-holds : need.loop-w-holds
 loop-w-holds g c =
@@ -16,9 +18,14 @@ loop-w-again g c =
     let m = g .B·Hierarchy .meaning (c .args .h .now) in
     let s = c .args .site in
     let f = m .leave (s .structure) (c .args .v) (c .args .by) in
-    elim (c .if-has-leave .came) [
-      | then-has-leave w ↦ simp (w .guide-is) (adding-yes s (c .args .cell) f (c .loop-w .w) (sym (w .if-has-leave .ensures tt)) (c .loop-w .inv) (w .reach-one .ensures))
-      | else-has-leave w ↦ simp (w .guide-is) (adding-no s (c .args .cell) f (c .loop-w .w) (sym (w .if-has-leave .ensures tt)) (c .loop-w .inv))
+    elim (c .if-not-get .came) [
+      | then-not-get·then-has-leave w ↦ simp (w .guide-is) (adding-new s (c .args .cell) f (c .loop-w .w) (sym (w .has-leave .ensures) ∙ w .if-has-leave .taken) (sym (ap (λ x. x .reached) (c .get .ensures)) ∙ not-true _ (w .if-not-get .taken)) (c .loop-w .inv) (w .put .ensures))
+      | else-not-get w ↦
+          simp (w .guide-is)
+          (elim (w .else-not-get .came) [
+            | else-not-get·by·then-not-get·else-has-leave w′ ↦ adding-no s (c .args .cell) f (c .loop-w .w) (sym (w′ .has-leave .ensures) ∙ w′ .if-has-leave .left) (c .loop-w .inv)
+            | else-not-get·by·else-not-get w′ ↦ adding-old s (c .args .cell) f (c .loop-w .w) (sym (ap (λ x. x .reached) (c .get .ensures)) ∙ not-false _ (w′ .if-not-get .left)) (c .loop-w .inv)
+          ])
     ]
 
 pub returns : need.returns

@@ -1,4 +1,4 @@
-use Prim.Native.Nat.{_<_}
+-- A place that is reached and not done, or none is left.
 use native.Mathlib.Omega.{arith}
 use Rattle.judge.proofs.Looks.{reached-in}
 use Rattle.judge.proofs.spread.pick.Needs as need

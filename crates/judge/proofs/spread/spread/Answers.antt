@@ -1,6 +1,7 @@
+-- Each turn leaves one place fewer to do, and keeps the row in order.
 use native.Mathlib.Omega.{arith}
 use Rattle.judge.proofs.Looks.{stands-less}
-use Rattle.judge.proofs.Turns.{turn-spreads, turn-orderly, turn-undone, spreads-none, all-closed}
+use Rattle.judge.proofs.Turns.{turn-spreads, turn-orderly, turn-undone, all-closed}
 use Rattle.judge.proofs.spread.spread.Needs as need
 
 pub pick-requires : need.pick-requires
@@ -33,4 +34,4 @@ loop-v-again g c =
 pub returns : need.returns
 returns g c =
     let m = g .B·Hierarchy .meaning (c .args .h .now) in
-    record { spreads = c .loop-v .inv .0; closed = all-closed m (c .args .site) _ (c .loop-v .inv .1) (c .in-rest .ensures tt); done = c .in-rest .ensures tt }
+    record { spreads = c .loop-v .inv .0; closed = all-closed m (c .args .site) _ (c .loop-v .inv .1) (c .in-rest .ensures tt); orderly = c .loop-v .inv .1; done = c .in-rest .ensures tt }

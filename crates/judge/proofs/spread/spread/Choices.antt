@@ -1,3 +1,4 @@
+-- What the loop keeps, and why it ends.
 use Rattle.guide.specs.Layout.{look}
 use Rattle.judge.specs.Search.{Spreads, Orderly, undone}
 use Rattle.judge.proofs.spread.spread.Given as given

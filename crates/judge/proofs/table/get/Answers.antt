@@ -1,3 +1,4 @@
+-- What is read is what the table has there, lane by lane.
 use Rattle.judge.proofs.Looks.{look-plain, look-marked, look-up}
 use Rattle.judge.proofs.table.get.Needs as need
 

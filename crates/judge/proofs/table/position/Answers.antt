@@ -1,3 +1,4 @@
+-- A row that stands in the guide has its places inside it.
 use borrow.Author.Needs.{needs}
 use native.Mathlib.Omega.{arith}
 use Rattle.judge.proofs.table.position.Needs as need

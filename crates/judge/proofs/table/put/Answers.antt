@@ -1,7 +1,4 @@
-use mathlib.Core.Path.{_≡_, sym, subst}
-use lib.ListN.{set}
-use Rattle.judge.specs.Tables.{Put}
-use Rattle.guide.specs.Layout.{look}
+-- What is written is one entry of the table.
 use Rattle.judge.proofs.Looks.{puts-set}
 use Rattle.judge.proofs.table.put.Needs as need
 

@@ -1,3 +1,4 @@
+-- An aim is no part of the trees.
 use Rattle.judge.proofs.Looks.{aim-set, aim-keeps-look}
 use Rattle.judge.proofs.table.set_aim.Needs as need
 

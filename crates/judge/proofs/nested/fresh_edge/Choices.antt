@@ -1,0 +1,12 @@
+-- What the loop keeps.
+use Prim.Native.Nat.{ℕ, _<_}
+use mathlib.Core.Path.{_≡_}
+use mathlib.Core.Bool.{true}
+use Rattle.guide.specs.Layout.{look}
+use Rattle.judge.specs.Spread.{here}
+use Rattle.judge.proofs.nested.fresh_edge.Given as given
+
+abbrev pub Inv-loop-w : given.InvT-loop-w
+Inv-loop-w g l =
+    let m = g .B·Hierarchy .meaning (l .h) in
+    (k : ℕ) → k < l .w → m .edge (l .site .structure) (l .v) k ≡ true → here (look (l .guide) (l .site .places)) (l .site) k .reached ≡ true

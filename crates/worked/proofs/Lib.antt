@@ -1,0 +1,3 @@
+pub mod Ranks
+pub mod Bare
+pub mod Monitored
