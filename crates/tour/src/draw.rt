@@ -22,9 +22,19 @@ pub fn schedule() -> [Edit; 15] {
         Edit::Edge { i: 1, p: 0, w: 1 },
         Edit::Edge { i: 1, p: 1, w: 2 },
         Edit::Edge { i: 0, p: 0, w: 1 },
-        Edit::Leave { i: 0, b: 1, e: 2, w: 3 },
+        Edit::Leave {
+            i: 0,
+            b: 1,
+            e: 2,
+            w: 3,
+        },
         Edit::Edge { i: 0, p: 3, w: 2 },
-        Edit::Leave { i: 0, b: 2, e: 2, w: 4 },
+        Edit::Leave {
+            i: 0,
+            b: 2,
+            e: 2,
+            w: 4,
+        },
         Edit::Edge { i: 0, p: 4, w: 0 },
         Edit::Edge { i: 0, p: 3, w: 0 },
     ]
@@ -34,17 +44,35 @@ pub fn schedule() -> [Edit; 15] {
 fn tell_edit(rt: &LibcRuntime, edit: Edit, number: Option<usize>) -> io::Result<()> {
     let number = number.unwrap_or(0);
     match edit {
-        Edit::Node { i, look } => println!(rt, "  structure {i}: node {number} was added, of look {look}"),
-        Edit::Box { i, inner } => println!(rt, "  structure {i}: box {number} was added, which stands for structure {inner}"),
+        Edit::Node { i, look } => println!(
+            rt,
+            "  structure {i}: node {number} was added, of look {look}"
+        ),
+        Edit::Box { i, inner } => println!(
+            rt,
+            "  structure {i}: box {number} was added, which stands for structure {inner}"
+        ),
         Edit::Exit { i, p } => println!(rt, "  structure {i}: node {p} was made an exit"),
         Edit::Look { i, p, look } => println!(rt, "  structure {i}: node {p} got look {look}"),
-        Edit::Edge { i, p, w } => println!(rt, "  structure {i}: an edge was added from {p} to {w}"),
+        Edit::Edge { i, p, w } => println!(
+            rt,
+            "  structure {i}: an edge was added from {p} to {w}"
+        ),
         Edit::Leave { i, b, e, w } => {
-            println!(rt, "  structure {i}: a leave was added from box {b} by its exit {e} to {w}")
+            println!(
+                rt,
+                "  structure {i}: a leave was added from box {b} by its exit {e} to {w}"
+            )
         }
-        Edit::Unedge { i, p, w } => println!(rt, "  structure {i}: the edge from {p} to {w} was erased"),
+        Edit::Unedge { i, p, w } => println!(
+            rt,
+            "  structure {i}: the edge from {p} to {w} was erased"
+        ),
         Edit::Unleave { i, b, e, w } => {
-            println!(rt, "  structure {i}: the leave from box {b} by its exit {e} to {w} was erased")
+            println!(
+                rt,
+                "  structure {i}: the leave from box {b} by its exit {e} to {w} was erased"
+            )
         }
     }
 }
@@ -57,7 +85,10 @@ pub fn tell_refusal(rt: &LibcRuntime, refusal: Refusal) -> io::Result<()> {
 pub fn tell_size(rt: &LibcRuntime, size: Size) -> io::Result<()> {
     match size {
         Size::TooLarge => println!(rt, "  it is too large"),
-        Size::Fits(structures, places) => println!(rt, "  its size is {structures} structures with {places} places"),
+        Size::Fits(structures, places) => println!(
+            rt,
+            "  its size is {structures} structures with {places} places"
+        ),
     }
 }
 
@@ -82,12 +113,27 @@ pub fn draw(rt: &LibcRuntime, chart: &mut Chart) -> io::Result<()> {
 
 // Edits that are refused, each with its reason; the chart stays as it was.
 pub fn try_refused(rt: &LibcRuntime, chart: &mut Chart) -> io::Result<()> {
-    println!(rt, "A box in structure 1 that would stand for structure 0 was tried:")?;
+    println!(
+        rt,
+        "A box in structure 1 that would stand for structure 0 was tried:"
+    )?;
     edit(rt, chart, Edit::Box { i: 1, inner: 0 })?;
     println!(rt, "The edge from 3 to 2, which is there, was tried again:")?;
     edit(rt, chart, Edit::Edge { i: 0, p: 3, w: 2 })?;
-    println!(rt, "A leave from box 1 by node 1, which is no exit, was tried:")?;
-    edit(rt, chart, Edit::Leave { i: 0, b: 1, e: 1, w: 3 })?;
+    println!(
+        rt,
+        "A leave from box 1 by node 1, which is no exit, was tried:"
+    )?;
+    edit(
+        rt,
+        chart,
+        Edit::Leave {
+            i: 0,
+            b: 1,
+            e: 1,
+            w: 3,
+        },
+    )?;
     println!(rt, "Nothing changed by what was refused:")?;
     tell_size(rt, chart.size())
 }

@@ -33,7 +33,10 @@ fn tell_load(rt: &LibcRuntime, bytes: &[u8]) -> io::Result<()> {
             tell_refusal(rt, fault.refusal)?;
             let record = fault.record;
             let offset = fault.offset;
-            println!(rt, "  the fault is in record {record}, which starts at byte {offset}; the records before it were kept")?;
+            println!(
+                rt,
+                "  the fault is in record {record}, which starts at byte {offset}; the records before it were kept"
+            )?;
         }
     }
     tell_size(rt, chart.size())
@@ -43,7 +46,10 @@ pub fn store_and_load(rt: &LibcRuntime) -> io::Result<()> {
     match write(rt.alloc(), &records()) {
         Ok(bytes) => {
             let count = bytes.len();
-            println!(rt, "The drawing was stored as a file of {count} bytes, and loaded again:")?;
+            println!(
+                rt,
+                "The drawing was stored as a file of {count} bytes, and loaded again:"
+            )?;
             tell_load(rt, &bytes)
         }
         Err(_) => println!(rt, "The drawing could not be stored."),
@@ -53,7 +59,10 @@ pub fn store_and_load(rt: &LibcRuntime) -> io::Result<()> {
 pub fn damage(rt: &LibcRuntime) -> io::Result<()> {
     match write(rt.alloc(), &records()) {
         Ok(mut bytes) => {
-            println!(rt, "One byte of the file was damaged, the kind of record 8, and it was loaded again:")?;
+            println!(
+                rt,
+                "One byte of the file was damaged, the kind of record 8, and it was loaded again:"
+            )?;
             if bytes.len() > 21 {
                 bytes[20] = 77;
             }

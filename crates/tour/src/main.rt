@@ -10,7 +10,10 @@ use std::io;
 
 fn tell(rt: &LibcRuntime) -> io::Result<()> {
     let mut chart = Chart::new();
-    println!(rt, "A scheduler serves port A and then port B; both transfers are one structure, shared by two boxes.")?;
+    println!(
+        rt,
+        "A scheduler serves port A and then port B; both transfers are one structure, shared by two boxes."
+    )?;
     draw::draw(rt, &mut chart)?;
     draw::try_refused(rt, &mut chart)?;
     file::store_and_load(rt)?;

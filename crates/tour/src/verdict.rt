@@ -14,6 +14,7 @@ use walk::Frame;
 use walk::Walk;
 
 const RECORDS: usize = 4096;
+
 const FRAMES: usize = 256;
 // how many states of a walk are told
 const STATES: u64 = 12;
@@ -28,7 +29,10 @@ fn tell_verdict(rt: &LibcRuntime, judged: Result<Judgment, Refusal>) -> io::Resu
         Ok(judgment) => {
             let reach = yes(judgment.reach);
             let recur = yes(judgment.walk.is_some());
-            println!(rt, "  a marked state is reachable: {reach}; one comes round without end: {recur}")
+            println!(
+                rt,
+                "  a marked state is reachable: {reach}; one comes round without end: {recur}"
+            )
         }
         Err(refusal) => tell_refusal(rt, refusal),
     }
@@ -37,12 +41,20 @@ fn tell_verdict(rt: &LibcRuntime, judged: Result<Judgment, Refusal>) -> io::Resu
 pub fn judge_bare(rt: &LibcRuntime, chart: &Chart) -> io::Result<()> {
     let mut guide = vec![in rt.alloc(); GuideRecord::blank(); RECORDS]?;
     let mut frames = vec![in rt.alloc(); Frame::blank(); FRAMES]?;
-    println!(rt, "The chart was judged without a requirement, marked where A is served:")?;
+    println!(
+        rt,
+        "The chart was judged without a requirement, marked where A is served:"
+    )?;
     tell_verdict(rt, judge_under(chart, &[], &mut guide, &mut frames, 0))
 }
 
 // One line for the state that a walk shows, in the chart's own numbers: each number of the pile is divided by 16.
-fn tell_state(rt: &LibcRuntime, pile: &Pile<'_, Chart>, walk: &Walk, frames: &[Frame]) -> io::Result<()> {
+fn tell_state(
+    rt: &LibcRuntime,
+    pile: &Pile<'_, Chart>,
+    walk: &Walk,
+    frames: &[Frame],
+) -> io::Result<()> {
     print!(rt, "  ")?;
     for i in 0..walk.boxes(frames) {
         if let Some(place) = walk.box_at(frames, i) {
@@ -51,7 +63,11 @@ fn tell_state(rt: &LibcRuntime, pile: &Pile<'_, Chart>, walk: &Walk, frames: &[F
         }
     }
     let node = walk.node(pile) / 16;
-    let mark = if walk.is_marked(pile, frames) { " (marked)" } else { "" };
+    let mark = if walk.is_marked(pile, frames) {
+        " (marked)"
+    } else {
+        ""
+    };
     println!(rt, "node {node}{mark}")
 }
 
@@ -60,7 +76,12 @@ fn tell_walk<'a>(rt: &LibcRuntime, chart: &'a Chart, monitors: &'a [Monitor]) ->
     let mut frames = vec![in rt.alloc(); Frame::blank(); FRAMES]?;
     let pile = Pile::new(chart, monitors);
     match endless::judge_and_walk(&pile, &mut guide, &mut frames, 0) {
-        Ok(Judgment { reach: _, walk: Some(mut walk) }) => {
+        Ok(
+            Judgment {
+                reach: _,
+                walk: Some(mut walk),
+            },
+        ) => {
             println!(rt, "A walk was started, and shows the forbidden loop:")?;
             tell_state(rt, &pile, &walk, &frames)?;
             for _ in 0..STATES {
@@ -71,7 +92,12 @@ fn tell_walk<'a>(rt: &LibcRuntime, chart: &'a Chart, monitors: &'a [Monitor]) ->
             }
             Ok(())
         }
-        Ok(Judgment { reach: _, walk: None }) => println!(rt, "There is no walk to show."),
+        Ok(
+            Judgment {
+                reach: _,
+                walk: None,
+            },
+        ) => println!(rt, "There is no walk to show."),
         Err(refusal) => tell_refusal(rt, refusal),
     }
 }
@@ -79,18 +105,37 @@ fn tell_walk<'a>(rt: &LibcRuntime, chart: &'a Chart, monitors: &'a [Monitor]) ->
 pub fn show_forbidden(rt: &LibcRuntime, chart: &Chart, monitors: [Monitor; 2]) -> io::Result<()> {
     let mut guide = vec![in rt.alloc(); GuideRecord::blank(); RECORDS]?;
     let mut frames = vec![in rt.alloc(); Frame::blank(); FRAMES]?;
-    println!(rt, "Both monitors were laid over the chart, and the pile was judged:")?;
-    tell_verdict(rt, judge_under(chart, &monitors, &mut guide, &mut frames, 0))?;
+    println!(
+        rt,
+        "Both monitors were laid over the chart, and the pile was judged:"
+    )?;
+    tell_verdict(
+        rt,
+        judge_under(chart, &monitors, &mut guide, &mut frames, 0),
+    )?;
     tell_walk(rt, chart, &monitors)
 }
 
 // What the verdict on the mended drawing means.
 fn tell_meaning(rt: &LibcRuntime, judged: &Result<Judgment, Refusal>) -> io::Result<()> {
     match judged {
-        Ok(Judgment { reach: _, walk: None }) => {
-            println!(rt, "No run serves A without end and starves B: the schedule is free of the forbidden loop.")
+        Ok(
+            Judgment {
+                reach: _,
+                walk: None,
+            },
+        ) => {
+            println!(
+                rt,
+                "No run serves A without end and starves B: the schedule is free of the forbidden loop."
+            )
         }
-        Ok(Judgment { reach: _, walk: Some(_) }) => println!(rt, "The forbidden loop is still there."),
+        Ok(
+            Judgment {
+                reach: _,
+                walk: Some(_),
+            },
+        ) => println!(rt, "The forbidden loop is still there."),
         Err(_) => println!(rt, "There is no verdict."),
     }
 }

@@ -2,13 +2,13 @@
 -- Assumes nothing.
 use mathlib.Core.Path.{_≡_, refl}
 use mathlib.Core.Bool.{true}
-use mathlib.Core.List.{List, [], _∷_}
+use mathlib.Core.List.{[], _∷_}
 use Prim.Native.Nat.{ℕ}
 use native.Mathlib.Omega.{arith}
 use Rattle.hierarchy.specs.Meaning.{Meaning, node, box, Lawful}
-use Rattle.hierarchy.specs.Flat.{State, at, within, to-node, to-box, by-edge, by-leave, inside, Star, stop, step, Step, Plus, Reaches, Recurs}
+use Rattle.hierarchy.specs.Flat.{State, at, within, to-node, to-box, by-edge, by-leave, inside, Star, stop, step, Step, Plus}
 use Rattle.sheet.proofs.Replays.{replayed-lawful}
-use Rattle.worked.specs.Cases.{Case, bottom-of, Right}
+use Rattle.worked.specs.Cases.{bottom-of, Right}
 use Rattle.worked.specs.Charts.{new-chart, entry-marked, entry-turning, ring-alone, ring-open, ring-blocked, pair-alone, no-inner-structure, one-place-more, same-edge-twice}
 use Rattle.worked.proofs.Ranks.{Ranks, never-recurs, never-reaches}
 

@@ -1,17 +1,15 @@
 -- The worked charts under monitors.
 -- Assumes nothing.
-use mathlib.Core.Path.{_≡_, refl}
-use mathlib.Core.List.{List, [], _∷_, map}
-use Prim.Native.Nat.{ℕ}
+use mathlib.Core.Path.{refl}
+use mathlib.Core.List.{[], _∷_}
 use native.Mathlib.Omega.{arith}
-use Rattle.hierarchy.specs.Meaning.{Meaning, Lawful}
-use Rattle.hierarchy.specs.Flat.{State, at, within, to-node, to-box, by-edge, by-leave, inside, Star, stop, step, Step, Reaches, Recurs}
-use Rattle.monitor.specs.Automata.{Proper}
+use Rattle.hierarchy.specs.Meaning.{Lawful}
+use Rattle.hierarchy.specs.Flat.{at, within, to-node, to-box, by-edge, by-leave, inside, Star, stop, step, Step}
 use Rattle.monitor.specs.Product.{moves, marks, overflows}
 use Rattle.monitor.specs.Replay.{made}
 use Rattle.sheet.proofs.Replays.{replayed-lawful}
 use Rattle.piles.proofs.Piles.{pile-lawful}
-use Rattle.worked.specs.Cases.{Case, bottom-of, pile-of, Right}
+use Rattle.worked.specs.Cases.{bottom-of, pile-of, Right}
 use Rattle.worked.specs.Charts.{odd-no-more, ring-odd-often, ring-odd-no-more, largest-pile, one-structure-more}
 use Rattle.worked.proofs.Ranks.{Ranks, never-recurs}
 

@@ -1,15 +1,15 @@
 -- A list of ranked states, checked by computing: no step from a listed state falls in rank, and each from a marked one
 -- climbs. Then no marked state that is listed reaches itself. Assumes nothing.
-use mathlib.Core.Path.{_≡_, refl, sym, ap, subst, _∙_}
+use mathlib.Core.Path.{_≡_, sym, ap, subst, _∙_}
 use mathlib.Core.List.{List, [], _∷_}
-use mathlib.Core.Bool.{Bool, true, false, cond, not, _&&_, _||_}
-use mathlib.Core.Logic.{⊎-elim, inl, inr, _⊎_}
+use mathlib.Core.Bool.{Bool, true, false, cond, not, _&&_}
+use mathlib.Core.Logic.{⊎-elim}
 use Prim.Native.Nat.{ℕ, zero, suc, _+_, _≤_, _<_}
 use native.Mathlib.Omega.{arith}
 use lib.Dec.{eqb, leb, ltb}
 use Rattle.std.proofs.shelf.Tests.{and-parts, cases-bool, eqb-true, leb-true, ltb-true, not-true, cond-true, cond-false, cases-lt, false≢true}
 use Rattle.hierarchy.specs.Meaning.{Meaning, Kind, absent, node, box, Lawful}
-use Rattle.hierarchy.specs.Flat.{State, at, within, last-structure, last-node, Marked, Enter, to-node, to-box, Step, by-edge, by-leave, inside, Star, stop, step, Plus, initial, Reaches, Recurs}
+use Rattle.hierarchy.specs.Flat.{State, at, within, last-structure, last-node, Enter, to-node, to-box, Step, by-edge, by-leave, inside, Star, stop, step, initial, Reaches, Recurs}
 
 -- ---- what holds of every step's end
 abbrev below : ℕ → (ℕ → Bool) → Bool

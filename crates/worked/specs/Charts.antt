@@ -7,7 +7,7 @@ use Rattle.sheet.specs.declared.Edit.{Edit}
 use Rattle.sheet.specs.declared.Edit.the-variants.{Node, Box, Exit, Look, Edge, Leave, Unedge}
 use Rattle.monitor.specs.declared.replay.MonitorEdit.{MonitorEdit}
 use Rattle.monitor.specs.declared.replay.MonitorEdit.the-variants.{State, Step, Accept}
-use Rattle.worked.specs.Cases.{Claim, reach, recur, size, unjudged, refused, Case, Each, Right}
+use Rattle.worked.specs.Cases.{reach, recur, size, unjudged, refused, Case, Each, Right}
 
 -- ---- edits
 -- the entry of structure 0 is marked

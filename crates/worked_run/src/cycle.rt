@@ -22,13 +22,13 @@ fn steps_round<B: Hierarchy>(
     found: FoundMark,
     h: &B,
     guide: &[GuideRecord],
+    frames: &mut [Frame],
     most: usize,
 ) -> Result<Option<usize>, Refusal> {
-    let mut frames = [Frame::blank(); FRAMES];
     let mut walk = start(found);
     for before in 0..most {
-        walk.step(h, guide, &mut frames)?;
-        if at_start(&walk, h, &frames) {
+        walk.step(h, guide, frames)?;
+        if at_start(&walk, h, frames) {
             return Ok(Some(before + 1));
         }
     }
@@ -42,8 +42,9 @@ fn cycle_length<B: Hierarchy>(
     most: usize,
 ) -> Result<Option<usize>, Refusal> {
     let verdict = judge(h, guide)?;
+    let mut frames = [Frame::blank(); FRAMES];
     match verdict.recur {
-        Some(found) => steps_round(found, h, guide, most),
+        Some(found) => steps_round(found, h, guide, &mut frames, most),
         None => Ok(None),
     }
 }

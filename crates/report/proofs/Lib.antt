@@ -1,0 +1,8 @@
+mod Writings
+mod Pieces
+mod Runs
+mod Walked
+mod Lengths
+mod Told
+mod Bounds
+mod Given

@@ -1,0 +1,4 @@
+pub mod Writing
+pub mod Text
+pub mod Report
+pub mod Refused
