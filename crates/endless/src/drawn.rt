@@ -2,14 +2,16 @@
 // What is promised speaks of the sheet of these edits alone: whatever their order and number, and whichever are refused.
 ghost use mathlib.Core.Path.{_≡_};
 ghost use mathlib.Core.Bool.{true, false};
-ghost use mathlib.Core.List.{map};
+ghost use mathlib.Core.List.{List, map};
 ghost use lib.ListN.{length};
 ghost use Rattle.std.specs.Options.{isSome};
 ghost use Rattle.std.specs.Results.{errPart, isErr};
 ghost use Rattle.hierarchy.specs.Flat.{Reaches};
 ghost use Rattle.monitor.specs.Piles.{GoodRun};
 ghost use Rattle.monitor.specs.Product.{laid};
+ghost use Rattle.monitor.specs.Replay.{made};
 ghost use Rattle.monitor.specs.Tables.{automaton-of};
+ghost use Rattle.monitor.specs.declared.replay.MonitorEdit.{MonitorEdit};
 ghost use Rattle.judge.specs.Known.{Decides};
 ghost use Rattle.endless.specs.Judgments.{OnJudgment, WalkIs, WalksOn, pile-lacking};
 ghost use Rattle.endless.specs.Drawings.{drawn, drawing-refusal};
@@ -27,7 +29,8 @@ use sheet::Edit;
 use walk::Frame;
 
 // Draws a chart of so many structures by the edits, lays the monitors over it, the first of them last, judges the pile,
-// and where a marked state recurs, starts a walk and makes `n` steps.
+// and where a marked state recurs, starts a walk and makes `n` steps. The clause `made` says the same of the monitors'
+// own edits, each list from when its monitor was new.
 pub fn judge_drawing(
     structures: usize,
     edits: &[Edit],
@@ -40,6 +43,7 @@ pub fn judge_drawing(
     ensures unchanged { λ r. ⌜ (isErr r ≡ true → (now (guide .exit) ≡ now (guide .entry)) × (now (frames .exit) ≡ now (frames .entry))) ⌝ }
     ensures reach { λ r. ⌜ OnJudgment (λ j. Decides (j .reach) (Reaches (laid (map automaton-of (now (monitors .entry))) (drawn structures (now (edits .entry)))))) r ⌝ }
     ensures recur { λ r. ⌜ OnJudgment (λ j. Decides (isSome (j .walk)) (GoodRun (drawn structures (now (edits .entry))) (map automaton-of (now (monitors .entry))))) r ⌝ }
+    ensures made { λ r. ⌜ ((lists : List (List MonitorEdit)) → map automaton-of (now (monitors .entry)) ≡ map made lists → OnJudgment (λ j. Decides (isSome (j .walk)) (GoodRun (drawn structures (now (edits .entry))) (map made lists))) r) ⌝ }
     ensures idle { λ r. ⌜ OnJudgment (λ j. (isSome (j .walk) ≡ false → now (frames .exit) ≡ now (frames .entry))) r ⌝ }
     ensures endless { λ r. ⌜ OnJudgment (λ j. WalkIs (WalksOn (laid (map automaton-of (now (monitors .entry))) (drawn structures (now (edits .entry)))) (now (guide .exit)) (now (frames .exit)) n) (j .walk)) r ⌝ }
 {

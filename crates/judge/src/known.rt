@@ -70,7 +70,12 @@ fn forget(guide: &mut [GuideRecord], structures: usize, places: usize)
 }
 
 // Makes every reached structure known.
-pub fn know_all<B: Hierarchy>(h: &B, guide: &mut [GuideRecord], structures: usize, places: usize)
+pub(crate) fn know_all<B: Hierarchy>(
+    h: &B,
+    guide: &mut [GuideRecord],
+    structures: usize,
+    places: usize,
+)
     requires ready { ⌜ Ready (B·Hierarchy .meaning (now h)) (now guide) places ⌝ }
     requires structures { ⌜ structures ≡ B·Hierarchy .meaning (now h) .structures ⌝ }
     requires behind { ⌜ Behind (B·Hierarchy .meaning (now h)) 0 (look (now guide) places) ⌝ }
@@ -102,7 +107,7 @@ fn marked_in<B: Hierarchy>(h: &B, guide: &[GuideRecord], places: usize, structur
 }
 
 // Whether a known structure has a marked node that is reached.
-pub fn marked_any<B: Hierarchy>(
+pub(crate) fn marked_any<B: Hierarchy>(
     h: &B,
     guide: &[GuideRecord],
     structures: usize,

@@ -218,7 +218,7 @@ fn go_on<B: Hierarchy>(
 }
 
 // Looks for a place of the structure that has a ring, and that the structure's entry reaches.
-pub fn seek<B: Hierarchy>(
+pub(crate) fn seek<B: Hierarchy>(
     h: &B,
     guide: &mut [GuideRecord],
     structures: usize,

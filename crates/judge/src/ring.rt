@@ -78,7 +78,7 @@ fn ring_in<B: Hierarchy>(
 }
 
 // Looks for a ring in the known structures.
-pub fn ring_any<B: Hierarchy>(
+pub(crate) fn ring_any<B: Hierarchy>(
     h: &B,
     guide: &mut [GuideRecord],
     structures: usize,
@@ -102,7 +102,7 @@ pub fn ring_any<B: Hierarchy>(
 }
 
 // Sets the aims along the way from structure 0 to where the ring starts.
-pub fn point(guide: &mut [GuideRecord], structures: usize, places: usize, ring: Ring)
+pub(crate) fn point(guide: &mut [GuideRecord], structures: usize, places: usize, ring: Ring)
     requires stands { ⌜ Stands (now guide) places structures ⌝ }
     requires some { ⌜ 0 < places ⌝ }
     requires home { ⌜ ring .home < structures ⌝ }

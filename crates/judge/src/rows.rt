@@ -122,7 +122,13 @@ fn seed_node<B: Hierarchy>(h: &B, guide: &mut [GuideRecord], site: Site, v: usiz
 }
 
 // Reaches the targets of the marked hops of `v`.
-pub fn seed_from<B: Hierarchy>(h: &B, guide: &mut [GuideRecord], site: Site, v: usize, depth: usize)
+pub(crate) fn seed_from<B: Hierarchy>(
+    h: &B,
+    guide: &mut [GuideRecord],
+    site: Site,
+    v: usize,
+    depth: usize,
+)
     requires stands { ⌜ Stands (now guide) (site .places) (B·Hierarchy .meaning (now h) .structures) ⌝ }
     requires fit { ⌜ Fit (B·Hierarchy .meaning (now h)) site ⌝ }
     requires behind { ⌜ Behind (B·Hierarchy .meaning (now h)) (site .structure + 1) (look (now guide) (site .places)) ⌝ }
@@ -179,7 +185,7 @@ fn marked_row<B: Hierarchy>(h: &B, guide: &mut [GuideRecord], places: usize, str
 }
 
 // Fills both lanes of every structure's row.
-pub fn fill<B: Hierarchy>(h: &B, guide: &mut [GuideRecord], structures: usize, places: usize)
+pub(crate) fn fill<B: Hierarchy>(h: &B, guide: &mut [GuideRecord], structures: usize, places: usize)
     requires ready { ⌜ Ready (B·Hierarchy .meaning (now h)) (now guide) places ⌝ }
     requires structures { ⌜ structures ≡ B·Hierarchy .meaning (now h) .structures ⌝ }
     ensures { λ _. ⌜ Behind (B·Hierarchy .meaning (now (h .entry))) 0 (look (now (guide .exit)) places) ⌝ }

@@ -20,7 +20,13 @@ use hierarchy::Hierarchy;
 use hierarchy::Place;
 
 // Reaches the places that `v` has an edge to. Those that are reached already need no question.
-pub fn edges<B: Hierarchy>(h: &B, guide: &mut [GuideRecord], site: Site, cell: Entry, v: usize)
+pub(crate) fn edges<B: Hierarchy>(
+    h: &B,
+    guide: &mut [GuideRecord],
+    site: Site,
+    cell: Entry,
+    v: usize,
+)
     requires stands { ⌜ Stands (now guide) (site .places) (site .row) ⌝ }
     requires places { ⌜ site .places ≡ B·Hierarchy .meaning (now h) .places ⌝ }
     ensures { λ _. ⌜ Adds site cell (B·Hierarchy .meaning (now (h .entry)) .edge (site .structure) v) (look (now (guide .entry)) (site .places)) (look (now (guide .exit)) (site .places)) ⌝ }
@@ -35,7 +41,7 @@ pub fn edges<B: Hierarchy>(h: &B, guide: &mut [GuideRecord], site: Site, cell: E
 }
 
 // The same for the leaves of the box `v` by the exit `by`.
-pub fn leaves_by<B: Hierarchy>(
+pub(crate) fn leaves_by<B: Hierarchy>(
     h: &B,
     guide: &mut [GuideRecord],
     site: Site,
@@ -57,7 +63,7 @@ pub fn leaves_by<B: Hierarchy>(
 }
 
 // Whether a box that names `inner` can be passed by `by`.
-pub fn passed<B: Hierarchy>(
+pub(crate) fn passed<B: Hierarchy>(
     h: &B,
     guide: &[GuideRecord],
     places: usize,
@@ -141,7 +147,7 @@ fn pick(guide: &[GuideRecord], site: Site) -> Option<usize>
     None
 }
 
-pub fn spread<B: Hierarchy>(h: &B, guide: &mut [GuideRecord], site: Site)
+pub(crate) fn spread<B: Hierarchy>(h: &B, guide: &mut [GuideRecord], site: Site)
     requires stands { ⌜ Stands (now guide) (site .places) (B·Hierarchy .meaning (now h) .structures) ⌝ }
     requires fit { ⌜ Fit (B·Hierarchy .meaning (now h)) site ⌝ }
     requires orderly { ⌜ Orderly (B·Hierarchy .meaning (now h)) site (look (now guide) (site .places)) ⌝ }

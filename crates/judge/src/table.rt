@@ -27,7 +27,13 @@ fn position(guide: &[GuideRecord], places: usize, row: usize, place: usize) -> u
     row * places + place
 }
 
-pub fn get(guide: &[GuideRecord], places: usize, lane: Lane, row: usize, place: usize) -> Entry
+pub(crate) fn get(
+    guide: &[GuideRecord],
+    places: usize,
+    lane: Lane,
+    row: usize,
+    place: usize,
+) -> Entry
     requires stands { ⌜ Stands (now guide) places row ⌝ }
     requires inside { ⌜ place < places ⌝ }
     ensures { λ r. ⌜ r ≡ look (now (guide .entry)) places lane row place ⌝ }
@@ -53,7 +59,7 @@ fn with_lane(old: GuideRecord, lane: Lane, cell: Entry) -> GuideRecord
     }
 }
 
-pub fn put(
+pub(crate) fn put(
     guide: &mut [GuideRecord],
     places: usize,
     lane: Lane,
@@ -70,7 +76,7 @@ pub fn put(
 }
 
 // Writes the entry unless the place is reached already.
-pub fn reach_one(guide: &mut [GuideRecord], site: Site, cell: Entry, place: usize)
+pub(crate) fn reach_one(guide: &mut [GuideRecord], site: Site, cell: Entry, place: usize)
     requires stands { ⌜ Stands (now guide) (site .places) (site .row) ⌝ }
     requires inside { ⌜ place < site .places ⌝ }
     ensures { λ _. ⌜ Put (look (now (guide .entry)) (site .places)) (look (now (guide .exit)) (site .places)) (site .lane) (site .row) place (or-entry (here (look (now (guide .entry)) (site .places)) site place) cell) ⌝ }
@@ -81,7 +87,7 @@ pub fn reach_one(guide: &mut [GuideRecord], site: Site, cell: Entry, place: usiz
     }
 }
 
-pub fn clear(guide: &mut [GuideRecord], places: usize, lane: Lane, row: usize)
+pub(crate) fn clear(guide: &mut [GuideRecord], places: usize, lane: Lane, row: usize)
     requires stands { ⌜ Stands (now guide) places row ⌝ }
     ensures others { λ _. ⌜ Others (look (now (guide .entry)) places) (look (now (guide .exit)) places) lane row ⌝ }
     ensures blank { λ _. ⌜ ((u : ℕ) → look (now (guide .exit)) places lane row u ≡ blank) ⌝ }
@@ -91,7 +97,7 @@ pub fn clear(guide: &mut [GuideRecord], places: usize, lane: Lane, row: usize)
     }
 }
 
-pub fn child(from: usize, via: usize, depth: usize) -> Entry
+pub(crate) fn child(from: usize, via: usize, depth: usize) -> Entry
     ensures { λ r. ⌜ r ≡ child-entry from via depth ⌝ }
 {
     Entry {
@@ -105,7 +111,7 @@ pub fn child(from: usize, via: usize, depth: usize) -> Entry
 }
 
 // Sets the place of structure `row` to go to. The trees stay as they are.
-pub fn set_aim(guide: &mut [GuideRecord], places: usize, row: usize, aim: usize)
+pub(crate) fn set_aim(guide: &mut [GuideRecord], places: usize, row: usize, aim: usize)
     requires stands { ⌜ Stands (now guide) places row ⌝ }
     requires some { ⌜ 0 < places ⌝ }
     ensures rest { λ _. ⌜ look (now (guide .exit)) places ≡ look (now (guide .entry)) places ⌝ }

@@ -142,7 +142,7 @@ pub impl<'a, B: Hierarchy> Hierarchy for Layer<'a, B> as LayerHierarchy {
 }
 
 // The sizes below, multiplied, unless one is then more than a hierarchy may have.
-pub fn sizes_above(structures: usize, places: usize, width: usize) -> Size
+pub(crate) fn sizes_above(structures: usize, places: usize, width: usize) -> Size
     requires { ⌜ structures ≤ 1024 ⌝ ∗ ⌜ places ≤ 1024 ⌝ ∗ ⌜ width ≤ 8 ⌝ }
     ensures { λ r. ⌜ r ≡ cond (ltb 1024 (structures * width) || ltb 1024 (places * width)) TooLarge (Fits (structures * width) (places * width)) ⌝ }
 {

@@ -11,7 +11,7 @@ pub struct Steps {
 }
 
 impl Steps {
-    pub fn none() -> Steps
+    pub(crate) fn none() -> Steps
         ensures { λ s. ⌜ steps-of s ≡ no-steps ⌝ }
     {
         Steps {
@@ -20,14 +20,14 @@ impl Steps {
     }
 
     // Whether `r` may follow `q` by the letter.
-    pub fn has(&self, q: usize, letter: u8, r: usize) -> bool
+    pub(crate) fn has(&self, q: usize, letter: u8, r: usize) -> bool
         ensures { λ t. ⌜ t ≡ steps-of (now (self .entry)) q letter r ⌝ }
     {
         q < 4 && letter < 16 && r < 4 && self.cells[(q * 4 + r) * 16 + letter as usize]
     }
 
     // The table in which `r` may also follow `q` by each letter whose bits under `care` are `value`.
-    pub fn with(self, q: usize, care: u8, value: u8, r: usize) -> Steps
+    pub(crate) fn with(self, q: usize, care: u8, value: u8, r: usize) -> Steps
         requires { ⌜ q < 4 ⌝ ∗ ⌜ r < 4 ⌝ }
         ensures { λ s. ⌜ steps-of s ≡ stepped q care value r (steps-of self) ⌝ }
     {

@@ -64,7 +64,7 @@ fn write_verdict<B: Hierarchy>(
 }
 
 // Judges a hierarchy and writes the report of it.
-pub fn report_on<B: Hierarchy>(
+pub(crate) fn report_on<B: Hierarchy>(
     h: &B,
     guide: &mut [GuideRecord],
     frames: &mut [Frame],

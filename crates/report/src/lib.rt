@@ -8,6 +8,7 @@ ghost use Rattle.sheet.specs.Sheet.{meaning-of};
 ghost use Rattle.chart.specs.Charts.{sheet};
 ghost use Rattle.monitor.specs.Product.{product};
 ghost use Rattle.monitor.specs.Tables.{automaton-of};
+ghost use Rattle.report.specs.Judged.{judged};
 ghost use Rattle.report.specs.Report.{report-refusal, Prints};
 
 mod judged;
@@ -57,4 +58,22 @@ pub fn report_monitored(
 {
     let layer = Layer::new(chart, monitor);
     report_on(&layer, guide, frames, output)
+}
+
+// Reports on a chart, under a monitor if one is given.
+pub fn report(
+    chart: &Chart,
+    monitor: Option<&Monitor>,
+    guide: &mut [GuideRecord],
+    frames: &mut [Frame],
+    output: &mut [u8],
+) -> Result<usize, Refusal>
+    ensures refused { λ r. ⌜ errPart r ≡ report-refusal (judged (now (chart .entry)) (monitor .entry)) (length (now (guide .entry))) (length (now (frames .entry))) (length (now (output .entry))) ⌝ }
+    ensures unaltered { λ r. ⌜ (isErr r ≡ true → (now (output .exit) ≡ now (output .entry)) × (now (guide .exit) ≡ now (guide .entry)) × (now (frames .exit) ≡ now (frames .entry))) ⌝ }
+    ensures printed { λ r. ⌜ Prints (judged (now (chart .entry)) (monitor .entry)) (now (output .entry)) (now (output .exit)) r ⌝ }
+{
+    match monitor {
+        None => report_chart(chart, guide, frames, output),
+        Some(monitor) => report_monitored(chart, monitor, guide, frames, output),
+    }
 }

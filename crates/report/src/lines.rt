@@ -14,7 +14,7 @@ use hierarchy::Hierarchy;
 use walk::Frame;
 use walk::Walk;
 
-pub fn write_size(output: &mut [u8], at: usize, structures: usize, places: usize) -> usize
+pub(crate) fn write_size(output: &mut [u8], at: usize, structures: usize, places: usize) -> usize
     requires { ⌜ Room (now output) at (size-line structures places) ⌝ }
     ensures { λ r. ⌜ Wrote (now (output .entry)) at (size-line structures places) (now (output .exit)) r ⌝ }
 {
@@ -25,7 +25,7 @@ pub fn write_size(output: &mut [u8], at: usize, structures: usize, places: usize
     write_byte(output, second, b'\n')
 }
 
-pub fn write_answer(output: &mut [u8], at: usize, name: &[u8], answer: bool) -> usize
+pub(crate) fn write_answer(output: &mut [u8], at: usize, name: &[u8], answer: bool) -> usize
     requires { ⌜ Room (now output) at (answer-line (now name) answer) ⌝ }
     ensures { λ r. ⌜ Wrote (now (output .entry)) at (answer-line (now (name .entry)) answer) (now (output .exit)) r ⌝ }
 {
@@ -38,7 +38,7 @@ pub fn write_answer(output: &mut [u8], at: usize, name: &[u8], answer: bool) -> 
 }
 
 // Size and verdict, at the front.
-pub fn write_head(
+pub(crate) fn write_head(
     output: &mut [u8],
     structures: usize,
     places: usize,
@@ -70,7 +70,7 @@ fn write_boxes(output: &mut [u8], at: usize, walk: &Walk, frames: &[Frame]) -> u
 }
 
 // The state that a walk shows: boxes, node, and a star for a mark.
-pub fn write_state<B: Hierarchy>(
+pub(crate) fn write_state<B: Hierarchy>(
     output: &mut [u8],
     at: usize,
     walk: &Walk,

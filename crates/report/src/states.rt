@@ -21,7 +21,7 @@ use walk::start;
 const STEPS: usize = 5;
 
 // The states 0 to 5 of the walk that the found mark starts. By a good guide no step is refused.
-pub fn write_states<B: Hierarchy>(
+pub(crate) fn write_states<B: Hierarchy>(
     output: &mut [u8],
     at: usize,
     h: &B,

@@ -7,7 +7,7 @@ ghost use lib.ListN.{length};
 ghost use Rattle.std.specs.Written.{decimal};
 ghost use Rattle.report.specs.Writing.{Room, Wrote};
 
-pub fn write_byte(output: &mut [u8], at: usize, byte: u8) -> usize
+pub(crate) fn write_byte(output: &mut [u8], at: usize, byte: u8) -> usize
     requires { ⌜ Room (now output) at (byte ∷ []) ⌝ }
     ensures { λ r. ⌜ Wrote (now (output .entry)) at (byte ∷ []) (now (output .exit)) r ⌝ }
 {
@@ -15,7 +15,7 @@ pub fn write_byte(output: &mut [u8], at: usize, byte: u8) -> usize
     at + 1
 }
 
-pub fn write_bytes(output: &mut [u8], at: usize, bytes: &[u8]) -> usize
+pub(crate) fn write_bytes(output: &mut [u8], at: usize, bytes: &[u8]) -> usize
     requires { ⌜ Room (now output) at (now bytes) ⌝ }
     ensures { λ r. ⌜ Wrote (now (output .entry)) at (now (bytes .entry)) (now (output .exit)) r ⌝ }
 {
@@ -25,7 +25,7 @@ pub fn write_bytes(output: &mut [u8], at: usize, bytes: &[u8]) -> usize
 }
 
 // A number in decimal.
-pub fn write_number(output: &mut [u8], at: usize, n: usize) -> usize
+pub(crate) fn write_number(output: &mut [u8], at: usize, n: usize) -> usize
     requires { ⌜ Room (now output) at (decimal n) ⌝ }
     ensures { λ r. ⌜ Wrote (now (output .entry)) at (decimal n) (now (output .exit)) r ⌝ }
 {

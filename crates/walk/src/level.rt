@@ -25,7 +25,7 @@ fn tree_of(way: Way) -> Tree
     }
 }
 
-pub fn is_pass(way: Way) -> bool
+pub(crate) fn is_pass(way: Way) -> bool
     ensures { λ r. ⌜ r ≡ is-pass way ⌝ }
 {
     match way {
@@ -53,7 +53,7 @@ fn less(n: usize) -> usize
 }
 
 // The level after its next hop.
-pub fn hop(guide: &[GuideRecord], plan: Plan, structure: usize, level: Frame) -> Frame
+pub(crate) fn hop(guide: &[GuideRecord], plan: Plan, structure: usize, level: Frame) -> Frame
     requires { ⌜ Within plan structure ⌝ ∗ ⌜ level .left ≤ plan .places + plan .places ⌝ }
     ensures { λ r. ⌜ r ≡ hopped (guide-by (now (guide .entry)) plan) structure level ⌝ }
 {
@@ -80,7 +80,7 @@ fn goes_round(plan: Plan, structure: usize, way: Way) -> bool
 }
 
 // At its goal at home a lead becomes a ring, and a ring begins again.
-pub fn turned(guide: &[GuideRecord], plan: Plan, structure: usize, level: Frame) -> Frame
+pub(crate) fn turned(guide: &[GuideRecord], plan: Plan, structure: usize, level: Frame) -> Frame
     requires { ⌜ Within plan structure ⌝ }
     ensures { λ r. ⌜ r ≡ level-turned (guide-by (now (guide .entry)) plan) structure level ⌝ }
 {
@@ -98,7 +98,12 @@ pub fn turned(guide: &[GuideRecord], plan: Plan, structure: usize, level: Frame)
 }
 
 // The level that goes from the structure's entry to its aim.
-pub fn lead<B: Hierarchy>(h: &B, guide: &[GuideRecord], plan: Plan, structure: usize) -> Frame
+pub(crate) fn lead<B: Hierarchy>(
+    h: &B,
+    guide: &[GuideRecord],
+    plan: Plan,
+    structure: usize,
+) -> Frame
     requires { ⌜ Within plan structure ⌝ }
     ensures { λ r. ⌜ r ≡ lead-level (B·Hierarchy .meaning (now (h .entry))) (guide-by (now (guide .entry)) plan) structure ⌝ }
 {
@@ -143,7 +148,7 @@ fn pass<B: Hierarchy>(
 }
 
 // The level that a level at a box pushes into the structure that the box names.
-pub fn inner<B: Hierarchy>(
+pub(crate) fn inner<B: Hierarchy>(
     h: &B,
     guide: &[GuideRecord],
     plan: Plan,

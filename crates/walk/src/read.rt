@@ -89,7 +89,7 @@ fn look(guide: &[GuideRecord], places: usize, lane: Lane, row: usize, place: usi
 }
 
 // The entry of a place of structure `structure` in a tree.
-pub fn entry_of(guide: &[GuideRecord], plan: Plan, structure: usize, spot: Spot) -> Entry
+pub(crate) fn entry_of(guide: &[GuideRecord], plan: Plan, structure: usize, spot: Spot) -> Entry
     requires { ⌜ Within plan structure ⌝ }
     ensures { λ r. ⌜ r ≡ entry-at (guide-by (now (guide .entry)) plan .tree) structure (spot-told spot) ⌝ }
 {
@@ -101,7 +101,7 @@ pub fn entry_of(guide: &[GuideRecord], plan: Plan, structure: usize, spot: Spot)
 }
 
 // How many tree edges lead from a place up to the root.
-pub fn depth_of(
+pub(crate) fn depth_of(
     guide: &[GuideRecord],
     plan: Plan,
     structure: usize,
@@ -115,7 +115,7 @@ pub fn depth_of(
 }
 
 // The place of the structure to go to.
-pub fn aim_of(guide: &[GuideRecord], plan: Plan, structure: usize) -> usize
+pub(crate) fn aim_of(guide: &[GuideRecord], plan: Plan, structure: usize) -> usize
     requires { ⌜ Within plan structure ⌝ }
     ensures { λ r. ⌜ r ≡ guide-by (now (guide .entry)) plan .aim structure ⌝ }
 {
@@ -123,7 +123,13 @@ pub fn aim_of(guide: &[GuideRecord], plan: Plan, structure: usize) -> usize
 }
 
 // The ancestor of a place, so many tree edges up.
-pub fn climb(guide: &[GuideRecord], plan: Plan, structure: usize, start: Spot, edges: usize) -> Spot
+pub(crate) fn climb(
+    guide: &[GuideRecord],
+    plan: Plan,
+    structure: usize,
+    start: Spot,
+    edges: usize,
+) -> Spot
     requires { ⌜ Within plan structure ⌝ ∗ ⌜ edges ≤ plan .places + plan .places ⌝ }
     ensures { λ r. ⌜ spot-told r ≡ up (guide-by (now (guide .entry)) plan .tree) structure (spot-told start) edges ⌝ }
 {

@@ -134,7 +134,7 @@ fn go<B: Hierarchy>(
 }
 
 // Where the walk stands after one transition, if the guide names one from where it stands.
-pub fn moved<B: Hierarchy>(
+pub(crate) fn moved<B: Hierarchy>(
     h: &B,
     guide: &[GuideRecord],
     plan: Plan,

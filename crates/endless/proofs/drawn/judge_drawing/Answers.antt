@@ -14,6 +14,7 @@ use Rattle.std.specs.declared.result.Result.the-variants.{Ok, Err}
 use Rattle.hierarchy.specs.Flat.{Reaches}
 use Rattle.hierarchy.specs.declared.refusal.Refusal.{Refusal}
 use Rattle.hierarchy.specs.declared.refusal.Refusal.the-variants.{TooManyStructures}
+use Rattle.monitor.specs.Automata.{Automaton}
 use Rattle.monitor.specs.Piles.{GoodRun}
 use Rattle.monitor.specs.Product.{laid}
 use Rattle.monitor.specs.Tables.{automaton-of}
@@ -42,12 +43,14 @@ returns c =
     let a = begun-by t s0 (begun k) (sym (c .begin .ensures .answer) ∙ c .in-Continue-begin .was tt) in
     let e : sheet (c .replay .last .self) ≡ replayed (begun k) (c .args .edits .now)
     = c .replay .ensures ∙ ap (λ (s : Sheet). replayed s (c .args .edits .now)) (c .begin .ensures .after ∙ a .1) in
+    let recur = subst (λ (s : Sheet). OnJudgment (λ v. Decides (isSome (v .walk)) (GoodRun (meaning-of s) automata)) r) e (j .recur) in
     record {
       refused = j .refused ∙ ap (λ (s : Sheet). pile-lacking (meaning-of s) automata (length (c .args .guide .now)) (length (c .args .frames .now))) e
           ∙ ap (λ (b : Bool). cond b (Some TooManyStructures) (pile-lacking (meaning-of (replayed (begun k) (c .args .edits .now))) automata (length (c .args .guide .now)) (length (c .args .frames .now)))) (sym (a .0));
       unchanged = j .unchanged;
       reach = subst (λ (s : Sheet). OnJudgment (λ v. Decides (v .reach) (Reaches (laid automata (meaning-of s)))) r) e (j .reach);
-      recur = subst (λ (s : Sheet). OnJudgment (λ v. Decides (isSome (v .walk)) (GoodRun (meaning-of s) automata)) r) e (j .recur);
+      recur = recur;
+      made = λ lists q. subst (λ (ms : List Automaton). OnJudgment (λ v. Decides (isSome (v .walk)) (GoodRun (meaning-of (replayed (begun k) (c .args .edits .now))) ms)) r) q recur;
       idle = j .idle;
       endless = subst (λ (s : Sheet). OnJudgment (λ v. WalkIs (WalksOn (laid automata (meaning-of s)) (c .judge-under .last .guide) (c .judge-under .last .frames) (c .args .n)) (v .walk)) r) e (j .endless);
     }
