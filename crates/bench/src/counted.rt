@@ -1,5 +1,6 @@
 // A hierarchy that counts the questions it is asked, and answers each as the one below it does.
 // The count is no part of what it means, so that the judge says of it what it says of the one below.
+ghost use mathlib.Core.Path.{_≡_};
 ghost use denote.Ref.{now};
 use hierarchy::Hierarchy;
 use hierarchy::Look;
@@ -14,14 +15,17 @@ pub struct Counted<'a, B> {
 }
 
 impl<'a, B: Hierarchy> Counted<'a, B> {
-    pub fn new(below: &'a B) -> Counted<'a, B> {
+    // Nothing is asked yet.
+    pub fn new(below: &'a B) -> Counted<'a, B>
+        ensures { λ r. ⌜ r .below ≡ below .entry ⌝ }
+    {
         Counted {
             below,
             asked: Cell::new(0),
         }
     }
 
-    // How many questions were asked.
+    // How many questions were asked. No contract says it: a clause knows nothing of what a cell holds.
     pub fn asked(&self) -> u64 {
         self.asked.get()
     }

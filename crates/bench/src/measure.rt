@@ -29,7 +29,7 @@ fn tell_asked(rt: &LibcRuntime, asked: u64, structures: usize, places: usize) ->
     let share = hundredths(asked, structures, places);
     println!(
         rt,
-        "size {structures} {places}, questions {asked}, hundredths of S * P * P {share}"
+        "size {structures} {places}, questions {asked}, {share} hundredths of S * P * P"
     )
 }
 
