@@ -1,5 +1,7 @@
 // Counts the questions that the judge asks of growing wheels and of charts, beside their sizes.
 // With one exit to a structure they grow as S * P * P does; with more, also as the exits do; and not as the flat form does.
+#![tactic(auto)]
+
 mod charts;
 mod counted;
 mod measure;

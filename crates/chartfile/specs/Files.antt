@@ -1,6 +1,6 @@
 -- What a chart file is: records as bytes, each accepted in turn; or such records, and then a fault.
 -- Assumes nothing.
-use Rattle.std.specs.Prelude.{◌≡◌, ℕ, ◌+◌, ◌<◌, ◌≤◌, Bool, true, false, List, [], ◌∷◌, ◌++◌, length, Some, None, Ok, Err, Result, ◌≢◌}
+use Rattle.std.specs.Prelude.{◌≡◌, ℕ, ◌+◌, ◌<◌, ◌≤◌, Bool, true, false, List, [], ◌∷◌, ◌++◌, length, Some, None, Ok, Err, Result, ◌==◌, ◌≢◌}
 use Rattle.hierarchy.specs.declared.refusal.Refusal.{Refusal}
 use Rattle.hierarchy.specs.declared.refusal.Refusal.TheVariants.{UnknownKind, CutRecord, FileTooLong, BeginMisplaced}
 use Rattle.chart.specs.declared.chart.Chart.{Chart}
@@ -59,6 +59,11 @@ pub record Read (before : Drawing) (bytes : List ℕ) (answer : Result Bool Faul
 pub data Loaded (before : Drawing) (bytes : List ℕ) : Result Bool Fault → Drawing → Type 0 where
   too_long : 16384 < length bytes → Loaded before bytes (Err (record { refusal = FileTooLong; «record» = 1; offset = 0 })) before
   short : {answer : Result Bool Fault} {after : Drawing} → length bytes ≤ 16384 → Read before bytes answer after → Loaded before bytes answer after
+
+-- the first record is at fault, so that none was accepted
+abbrev pub first_faulty : Result Bool Fault → Bool
+first_faulty (Ok watched) = false
+first_faulty (Err f) = f.«record» == 1
 
 -- one file loads in one way
 abbrev pub LoadsOneWay : Type 0

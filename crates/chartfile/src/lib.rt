@@ -1,7 +1,9 @@
 // Chart files: records, each one byte of kind and a body of fixed length, read into a chart and a monitor.
 // A fault tells why, in which record, and where that record starts; the records before it stand.
-ghost use Rattle.std.specs.Prelude.{◌≡◌};
-ghost use Rattle.chartfile.specs.Files.{Loaded, LoadsOneWay, drawing};
+#![tactic(auto)]
+
+ghost use Rattle.std.specs.Prelude.{◌≡◌, true};
+ghost use Rattle.chartfile.specs.Files.{Loaded, LoadsOneWay, drawing, first_faulty};
 ghost use Rattle.chartfile.specs.Stored.{StoredFilesLoad};
 
 use chart::Chart;
@@ -28,9 +30,11 @@ pub struct Fault {
     pub offset: usize,
 }
 
-// Reads a whole file into the chart and the monitor. Answers whether the file has a record of a monitor.
+// Reads a whole file into the chart and the monitor. Answers whether the file has a record of a monitor. A fault in the
+// first record leaves both equal.
 pub fn load(bytes: &[u8], chart: &mut Chart, monitor: &mut Monitor) -> Result<bool, Fault>
-    ensures { Loaded (drawing chart.old monitor.old) bytes.now result (drawing chart.new monitor.new) }
+    ensures loaded { Loaded (drawing chart.old monitor.old) bytes.now result (drawing chart.new monitor.new) }
+    ensures unaltered { first_faulty result ≡ true → (chart.new ≡ chart.old) × (monitor.new ≡ monitor.old) }
 {
     if bytes.len() > LONGEST {
         return Err(Fault {

@@ -1,5 +1,5 @@
 // One record read and its call made, and the fault where that is refused.
-ghost use Rattle.std.specs.Prelude.{◌≡◌, ◌<◌, length, MatchResult, nat_eq};
+ghost use Rattle.std.specs.Prelude.{◌≡◌, ◌<◌, false, length, is_ok, MatchResult, nat_eq};
 ghost use Rattle.chartfile.specs.Records.{is_begin_lem, is_watch_lem};
 ghost use Rattle.chartfile.specs.Files.{drawing};
 ghost use Rattle.chartfile.specs.Steps.{Took, Stopped, Faulty};
@@ -21,7 +21,8 @@ pub(crate) fn read_at<'a>(
     monitor: &mut Monitor,
 ) -> Result<(bool, &'a [u8]), Fault>
     requires { 0 < length bytes.now }
-    ensures { MatchResult result (λ v. Took (nat_eq «record» 1) (drawing chart.old monitor.old) (drawing chart.new monitor.new) bytes.now v.0 v.1.now) (λ f. Faulty (nat_eq «record» 1) (drawing chart.old monitor.old) (drawing chart.new monitor.new) bytes.now «record» offset f) }
+    ensures read { MatchResult result (λ v. Took (nat_eq «record» 1) (drawing chart.old monitor.old) (drawing chart.new monitor.new) bytes.now v.0 v.1.now) (λ f. Faulty (nat_eq «record» 1) (drawing chart.old monitor.old) (drawing chart.new monitor.new) bytes.now «record» offset f) }
+    ensures unchanged { is_ok result ≡ false → (chart.new ≡ chart.old) × (monitor.new ≡ monitor.old) }
 {
     match read_one(bytes, record == 1, chart, monitor) {
         Ok(read) => Ok(read),
@@ -40,7 +41,8 @@ fn read_one<'a>(
     monitor: &mut Monitor,
 ) -> Result<(bool, &'a [u8]), Refusal>
     requires { 0 < length bytes.now }
-    ensures { MatchResult result (λ v. Took first (drawing chart.old monitor.old) (drawing chart.new monitor.new) bytes.now v.0 v.1.now) (λ e. Stopped first (drawing chart.old monitor.old) (drawing chart.new monitor.new) bytes.now e) }
+    ensures read { MatchResult result (λ v. Took first (drawing chart.old monitor.old) (drawing chart.new monitor.new) bytes.now v.0 v.1.now) (λ e. Stopped first (drawing chart.old monitor.old) (drawing chart.new monitor.new) bytes.now e) }
+    ensures unchanged { is_ok result ≡ false → (chart.new ≡ chart.old) × (monitor.new ≡ monitor.old) }
 {
     let (record, rest) = take(bytes)?;
     if record.is_begin() != first {

@@ -1,5 +1,5 @@
 // Making the call that a record names.
-ghost use Rattle.std.specs.Prelude.{◌≡◌};
+ghost use Rattle.std.specs.Prelude.{◌≡◌, false, is_ok};
 ghost use Rattle.chartfile.specs.Records.{performed};
 ghost use Rattle.chartfile.specs.Files.{drawing};
 
@@ -16,6 +16,7 @@ pub(crate) fn perform(
 ) -> Result<(), Refusal>
     ensures answer { result ≡ (performed (drawing chart.old monitor.old) «record»).answer }
     ensures after { drawing chart.new monitor.new ≡ (performed (drawing chart.old monitor.old) «record»).drawing }
+    ensures unchanged { is_ok result ≡ false → (chart.new ≡ chart.old) × (monitor.new ≡ monitor.old) }
 {
     match record {
         Record::Begin { structures } => {

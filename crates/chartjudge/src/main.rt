@@ -1,5 +1,7 @@
 // Reads a chart file from standard input, judges it, bare or under its monitor, and prints the report or the refusal.
 // All that is printed is made by the library; here it is only read and written.
+#![tactic(auto)]
+
 mod answer;
 
 use crate::answer::answer;

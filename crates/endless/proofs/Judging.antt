@@ -1,5 +1,5 @@
 -- From what the judge and the walk promise to what is promised of both in one call.
-use Rattle.std.proofs.Common.{◌≡◌, ℕ, ◌+◌, ◌*◌, ◌<◌, ◌≤◌, Bool, true, false, cond, ltb, List, is_some, is_ok, Some, None, Ok, Err, Option, Result, sym, refl, ap, ◌∙◌, subst, ap₂, arith}
+use Rattle.std.proofs.Common.{◌≡◌, ℕ, ◌+◌, ◌*◌, Bool, true, false, cond, ltb, List, is_some, is_ok, Some, None, Ok, Err, Option, Result, sym, refl, ap, ◌∙◌, subst, ap₂, arith}
 use Rattle.std.specs.Result.{result_err}
 use Rattle.hierarchy.specs.Meaning.{Meaning, Lawful}
 use Rattle.hierarchy.specs.Flat.{Recurs}
@@ -7,7 +7,7 @@ use Rattle.hierarchy.specs.declared.refusal.Refusal.{Refusal}
 use Rattle.hierarchy.specs.declared.refusal.Refusal.TheVariants.{TooLarge, TooLittleMemory}
 use Rattle.monitor.specs.Automata.{Automaton, AllProper}
 use Rattle.monitor.specs.Product.{laid}
-use Rattle.monitor.specs.Piles.{GoodRun, widths, pile_too_large}
+use Rattle.monitor.specs.Piles.{GoodRun, widths}
 use Rattle.piles.proofs.Piles.{pile_good, pile_large, pile_sizes}
 use Rattle.guide.specs.declared.GuideRecord.{GuideRecord}
 use Rattle.guide.specs.Trees.{Good}
@@ -20,7 +20,7 @@ use Rattle.walk.specs.Walks.{walk, ShowsRun}
 use Rattle.walk.specs.Steps.{lacking, guide_for, guide_home, levels, ring_home, state_shown}
 use Rattle.walk.specs.Journeys.{state_after}
 use Rattle.endless.specs.declared.Judgment.{Judgment}
-use Rattle.endless.specs.Judgments.{OnJudgment, pile_lacking, JudgedByGoodRuns, JudgedPiles, WalksOn}
+use Rattle.endless.specs.Judgments.{OnJudgment, pile_lacking, JudgedPiles, WalksOn}
 
 -- ---- refusals
 abbrev lacking_by : Bool → ℕ → ℕ → ℕ → ℕ → Option Refusal

@@ -1,6 +1,6 @@
 -- A chart drawn from a list of edits, by its sheet alone, and why a judgment of it under monitors is refused.
 -- Assumes nothing.
-use Rattle.std.specs.Prelude.{ℕ, Bool, cond, not, ◌&&◌, List, Some, Option, nat_le, nat_lt}
+use Rattle.std.specs.Prelude.{ℕ, cond, not, ◌&&◌, List, Some, Option, nat_le, nat_lt}
 use Rattle.hierarchy.specs.Meaning.{Meaning}
 use Rattle.hierarchy.specs.declared.refusal.Refusal.{Refusal}
 use Rattle.hierarchy.specs.declared.refusal.Refusal.TheVariants.{TooManyStructures}

@@ -1,6 +1,6 @@
 -- What is promised about endless runs: how a pile is judged by the good runs of its bottom, and how a walk shows one.
 -- Assumes nothing.
-use Rattle.std.specs.Prelude.{◌≡◌, ℕ, ◌*◌, Bool, cond, List, is_some, Some, None, Ok, Err, Option, Result, nat_lt}
+use Rattle.std.specs.Prelude.{◌≡◌, ℕ, ◌*◌, cond, List, is_some, Some, None, Ok, Err, Option, Result, nat_lt}
 use Rattle.std.specs.Result.{result_err}
 use Rattle.hierarchy.specs.Meaning.{Meaning, Lawful}
 use Rattle.hierarchy.specs.Runs.{Run, MarkedOften}

@@ -1,5 +1,7 @@
 // Judging and walking in one call: what is promised about endless runs, whole, for every hierarchy and every pile.
 // A yes to recur comes with a walk that shows such a run, step by step, and is never refused.
+#![tactic(auto)]
+
 ghost use Rattle.std.specs.Prelude.{◌≡◌, true, false, length, is_some, is_err};
 ghost use Rattle.std.specs.Result.{result_err};
 ghost use Rattle.hierarchy.specs.Flat.{Reaches, Recurs};

@@ -1,6 +1,6 @@
 -- Where guide records stand in memory: row by row, one record for each place number.
 -- Assumes nothing.
-use Rattle.std.specs.Prelude.{Bool, true, false, cond, List, ℕ, ◌+◌, ◌*◌, get_or, ltb}
+use Rattle.std.specs.Prelude.{false, cond, List, ℕ, ◌+◌, ◌*◌, get_or, ltb}
 use Rattle.guide.specs.declared.Entry.{Entry}
 use Rattle.guide.specs.declared.GuideRecord.{GuideRecord}
 use Rattle.guide.specs.declared.Lane.{Lane}

@@ -1,7 +1,7 @@
 -- Search trees over the places of each structure, and what makes them a good guide for an endless walk.
 -- Assumes nothing.
-use Rattle.std.specs.Prelude.{◌≡◌, Bool, true, false, cond, ◌⊎◌, ℕ, zero, suc, ◌+◌, ◌≤◌, ◌<◌}
-use Rattle.hierarchy.specs.Meaning.{Meaning, Kind, absent, node, box}
+use Rattle.std.specs.Prelude.{◌≡◌, true, false, cond, ◌⊎◌, ℕ, zero, suc, ◌+◌, ◌≤◌, ◌<◌}
+use Rattle.hierarchy.specs.Meaning.{Meaning, box}
 use Rattle.guide.specs.declared.Entry.{Entry}
 
 -- The trees: all places reached; those reached after a mark; and the ring, which is the cycle found.

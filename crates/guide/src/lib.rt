@@ -1,5 +1,7 @@
 // The guide: what a judge writes into lent memory, and what a walk reads there.
 // Records are plain numbers: memory in any state is a guide, though perhaps one that leads nowhere.
+#![tactic(auto)]
+
 ghost use Rattle.std.specs.Prelude.{◌≡◌};
 ghost use Rattle.guide.specs.Layout.{blank, blank_record_lem};
 

@@ -1,5 +1,5 @@
 -- Beyond the size of a lawful hierarchy every answer is no.
-use Rattle.std.proofs.Common.{◌≡◌, ℕ, ◌<◌, ◌≤◌, Bool, true, false, ◌≢◌, ◌⊎◌, sym, refl, ◌∙◌, inl, inr, ⊎_elim, arith}
+use Rattle.std.proofs.Common.{◌≡◌, ℕ, ◌<◌, ◌≤◌, Bool, true, false, ◌≢◌, ◌⊎◌, refl, ⊎_elim, arith}
 use Rattle.hierarchy.specs.Meaning.{Meaning, Kind, absent, node, box, Lawful}
 
 pub node_present : (k : Kind) → k ≡ node → k ≢ absent

@@ -1,6 +1,6 @@
 -- What each question to a hierarchy is answered, by its meaning.
 -- Assumes nothing.
-use Rattle.std.specs.Prelude.{ℕ, Bool, cond}
+use Rattle.std.specs.Prelude.{ℕ, cond}
 use Rattle.hierarchy.specs.Meaning.{Meaning, Kind, absent, node, box}
 use Rattle.hierarchy.specs.declared.Place.{Place}
 use Rattle.hierarchy.specs.declared.Place.TheVariants.{Absent, Node, Box}

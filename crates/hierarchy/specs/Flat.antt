@@ -1,6 +1,6 @@
 -- The flat form of a hierarchy: its states and transitions, and the questions "reach" and "recur" about it.
 -- Assumes nothing.
-use Rattle.std.specs.Prelude.{◌≡◌, ℕ, Bool, true}
+use Rattle.std.specs.Prelude.{◌≡◌, ℕ, true}
 use Rattle.hierarchy.specs.Meaning.{Meaning, Kind, absent, node, box}
 
 -- A flat state: boxes, outermost first, and then a node. Read from a structure i on:

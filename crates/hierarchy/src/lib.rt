@@ -1,5 +1,7 @@
 // The interface below everything: a hierarchy, asked by questions, and the refusals that all calls share.
 // Charts, wheels and monitor layers implement it; the judge and the walk know nothing else.
+#![tactic(auto)]
+
 ghost use Rattle.std.specs.Prelude.{◌≡◌};
 ghost use Rattle.hierarchy.specs.Answers.{place_told, size_told, look_told};
 ghost use Rattle.hierarchy.specs.Meaning.{Meaning, Lawful};

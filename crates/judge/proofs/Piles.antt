@@ -1,19 +1,18 @@
 -- A verdict on a pile is one on the good runs of its bottom, and its refusals are the size formulas worked from there.
-use Rattle.std.proofs.Common.{◌≡◌, ℕ, ◌+◌, ◌*◌, Bool, true, false, cond, ltb, List, is_some, Some, None, Ok, Err, Option, Result, sym, refl, ap, ◌∙◌, subst, ap₂, ⊎_elim, arith}
+use Rattle.std.proofs.Common.{◌≡◌, ℕ, ◌+◌, ◌*◌, Bool, true, false, cond, ltb, List, is_some, Some, None, Ok, Err, Option, Result, sym, refl, ap, ◌∙◌, subst, ap₂, arith}
 use Rattle.std.specs.Result.{result_err}
-use Rattle.std.proofs.lemmas.Bool.{cases_Bool}
 use Rattle.hierarchy.specs.Meaning.{Meaning, Lawful}
 use Rattle.hierarchy.specs.Flat.{Recurs}
 use Rattle.hierarchy.specs.declared.refusal.Refusal.{Refusal}
 use Rattle.hierarchy.specs.declared.refusal.Refusal.TheVariants.{TooLarge, TooLittleMemory}
 use Rattle.monitor.specs.Automata.{Automaton, AllProper}
 use Rattle.monitor.specs.Product.{laid}
-use Rattle.monitor.specs.Piles.{GoodRun, widths, pile_too_large}
+use Rattle.monitor.specs.Piles.{GoodRun}
 use Rattle.piles.proofs.Piles.{pile_good, pile_large, pile_sizes}
 use Rattle.judge.specs.declared.Verdict.{Verdict}
 use Rattle.judge.specs.Known.{Decides}
 use Rattle.judge.specs.Verdicts.{OnVerdict, judge_refusal, guide_need}
-use Rattle.judge.specs.Piles.{pile_need, pile_refusal, JudgedPile, JudgedAsPile}
+use Rattle.judge.specs.Piles.{pile_need, pile_refusal, JudgedAsPile}
 
 abbrev refusal_by : Bool → ℕ → ℕ → Option Refusal
 refusal_by large n need = cond large (Some TooLarge) (cond (ltb n need) (Some TooLittleMemory) None)

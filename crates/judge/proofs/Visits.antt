@@ -8,7 +8,7 @@ use Rattle.guide.specs.declared.Entry.{Entry}
 use Rattle.guide.specs.declared.Lane.TheVariants.{Plain, Marked}
 use Rattle.guide.specs.Layout.{Table, blank}
 use Rattle.judge.specs.Tables.{Others, Put, Kept}
-use Rattle.judge.specs.Spread.{here, child, finished, Fit}
+use Rattle.judge.specs.Spread.{child, finished, Fit}
 use Rattle.judge.specs.Search.{Spreads, Closed, Orderly, NothingOpen}
 use Rattle.judge.specs.Rows.{From, MarkedRow}
 use Rattle.judge.specs.Seeds.{SownFrom}

@@ -1,6 +1,6 @@
 -- A judgment of a pile, worked from the hierarchy at its bottom and the automata laid over it.
 -- Assumes nothing.
-use Rattle.std.specs.Prelude.{◌≡◌, ℕ, ◌+◌, ◌*◌, Bool, cond, List, is_some, Some, None, Option, Result, nat_lt}
+use Rattle.std.specs.Prelude.{◌≡◌, ℕ, ◌+◌, ◌*◌, cond, List, is_some, Some, None, Option, Result, nat_lt}
 use Rattle.std.specs.Result.{result_err}
 use Rattle.hierarchy.specs.Meaning.{Meaning, Lawful}
 use Rattle.hierarchy.specs.declared.refusal.Refusal.{Refusal}

@@ -1,5 +1,7 @@
 // The judge: whether a marked state is reachable, and whether one can be met without end, for every hierarchy.
 // It searches each structure by itself, a few times, in lent memory, and never unfolds the hierarchy.
+#![tactic(auto)]
+
 ghost use Rattle.std.specs.Prelude.{◌≡◌, true, false, length, is_some, is_err};
 ghost use Rattle.std.specs.Result.{result_err};
 ghost use Rattle.hierarchy.specs.Flat.{Reaches, Recurs};

@@ -1,19 +1,21 @@
 -- A pile, one monitor after another: what the monitors from k on make, by those from k + 1 on.
 -- Assumes nothing.
-use Rattle.std.proofs.Common.{◌≡◌, ℕ, ◌+◌, ◌*◌, ◌/◌, ◌%◌, ◌<◌, ◌≤◌, Bool, true, false, cond, ◌&&◌, ltb, ◌≢◌, List, length, get_or, drop, sym, refl, ap, ◌∙◌, arith}
+use Rattle.std.proofs.Common.{◌≡◌, ℕ, ◌+◌, ◌*◌, ◌/◌, ◌%◌, ◌^◌, ◌<◌, ◌≤◌, Bool, true, false, cond, ◌&&◌, ltb, ◌≢◌, List, [], ◌∷◌, length, get_or, drop, sym, refl, ap, ◌∙◌, pow-suc, arith}
 use lib.Arith.{digits_lt}
-use Rattle.std.proofs.lemmas.Nat.{mod_below, div_below}
+use lib.Pow.{pow-lt}
+use Rattle.std.proofs.lemmas.Nat.{mod_below, div_below, mul-le}
 use Rattle.std.proofs.lemmas.List.{at_drop_more, at_drop_all}
 use Rattle.std.proofs.lemmas.Bool.{both_ways, lt-ltb, cond-true, and_left, and_right, and_from}
 use Rattle.hierarchy.specs.Meaning.{Meaning, Lawful, Kind, absent, node, box}
-use Rattle.hierarchy.specs.Answers.{place_told}
+use Rattle.hierarchy.specs.Answers.{size_told, place_told}
+use Rattle.hierarchy.specs.declared.Size.TheVariants.{TooLarge}
 use Rattle.hierarchy.specs.declared.Place.TheVariants.{Absent, Node, Box}
 use Rattle.monitor.specs.Automata.{Automaton}
 use Rattle.monitor.specs.Product.{width, overflows, too_large, spread, product, kind_above, is_node, at_inner, marks, moves}
 use Rattle.monitor.specs.Tables.{automaton_of}
 use Rattle.monitor.specs.declared.Monitor.{Monitor}
 use Rattle.monitor.proofs.Products.{small}
-use Rattle.layer.specs.Piles.{pile}
+use Rattle.layer.specs.Piles.{pile, pile_lawful}
 use Rattle.layer.proofs.Layers.{is_spread, told_box, node_absent}
 
 pub pile_end : (below : Meaning) (ms : List Monitor) (k : ℕ) → length ms ≤ k → pile (drop k ms) below ≡ below
@@ -39,6 +41,21 @@ spread_of whole under a e fits =
 -- the monitors from k on, of which the one at k stands on top
 pub pile_spread : (below : Meaning) (ms : List Monitor) (k : ℕ) (d : Monitor) → k < length ms → (pile (drop k ms) below).large ≡ false → Spread (pile (drop k ms) below) (pile (drop (k + 1) ms) below) (automaton_of (get_or ms k d))
 pile_spread below ms k d h fits = spread_of _ _ (automaton_of (get_or ms k d)) (pile_more below ms k d h) fits
+
+-- ---- each monitor at least doubles the sizes, so that more than ten are too large
+
+doubles : (below : Meaning) → Lawful below → (ms : List Monitor) → (pile ms below).large ≡ false → 2 ^ length ms ≤ (pile ms below).structures
+doubles below law [] fits = (law.sized fits).0
+doubles below law (m ∷ rest) fits =
+    let s = spread_of _ (pile rest below) (automaton_of m) refl fits in
+    let more = mul-le (2 ^ length rest) 2 (pile rest below).structures (width (automaton_of m)) (doubles below law rest s.under_fits) (omega (arith, m.some)) in
+    omega (arith, more, pow-suc 2 (length rest), ap (λ x. x.structures) s.is)
+
+pub many_large : (below : Meaning) → Lawful below → (ms : List Monitor) → 10 < length ms → TooLarge ≡ size_told (pile ms below)
+many_large below law ms many = sym (cond-true (pile ms below).large TooLarge _ (by (pile ms below).large refl)) where
+  by : (t : Bool) → (pile ms below).large ≡ t → t ≡ true
+  by true e = refl
+  by false e = absurd (omega (arith, pow-lt many, doubles below law ms e, ((pile_lawful ms law).sized e).1))
 
 pub width_some : (t : Monitor) → 0 < width (automaton_of t)
 width_some t = omega (arith, t.some)

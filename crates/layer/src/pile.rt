@@ -10,9 +10,13 @@ use crate::layer::sizes_above;
 use hierarchy::{Hierarchy, Look, Place, Size};
 use monitor::Monitor;
 
-// The size is asked once a question. A question then goes down the monitors: a place, an entry or an exit over k of them
-// cost k steps and one question to the hierarchy at the bottom, a look at most twice that. An edge or a leave that is
-// there is read by each monitor, which costs about k * k steps and at most 3 * k questions at the bottom.
+// How many monitors a pile has at most that is not too large: each at least doubles the sizes.
+const MOST: usize = 10;
+
+// The size is asked once a question, and more than ten monitors are too large at once. A question then goes down the
+// monitors, ten levels at most: a place, an entry or an exit over k of them cost k steps and one question to the hierarchy
+// at the bottom, a look at most twice that. An edge or a leave that is there is read by each monitor, which costs about
+// k * k steps and at most 3 * k questions at the bottom.
 #[derive_where(Clone, Copy)]
 pub struct Pile<'a, B> {
     base: &'a B,
@@ -165,18 +169,21 @@ impl<'a, B: Hierarchy> Hierarchy for Pile<'a, B> {
     ghost lawful = { λ x. pile_lawful x.monitors.now (B.Hierarchy.lawful x.base.now) };
 
     fn size(&self) -> Size {
+        if self.monitors.len() > MOST {
+            return Size::TooLarge;
+        }
         self.size_from(0)
     }
 
     fn place(&self, i: usize, p: usize) -> Place {
-        match self.size_from(0) {
+        match self.size() {
             Size::Fits(_, _) => self.place_from(0, i, p),
             Size::TooLarge => Place::Absent,
         }
     }
 
     fn entry(&self, i: usize) -> usize {
-        let Size::Fits(structures, _) = self.size_from(0) else {
+        let Size::Fits(structures, _) = self.size() else {
             return 0;
         };
         if i >= structures {
@@ -186,14 +193,14 @@ impl<'a, B: Hierarchy> Hierarchy for Pile<'a, B> {
     }
 
     fn is_exit(&self, i: usize, p: usize) -> bool {
-        match self.size_from(0) {
+        match self.size() {
             Size::Fits(_, _) => self.is_exit_from(0, i, p),
             Size::TooLarge => false,
         }
     }
 
     fn look(&self, i: usize, p: usize) -> Look {
-        match self.size_from(0) {
+        match self.size() {
             Size::Fits(_, _) => self.look_from(0, i, p),
             Size::TooLarge => Look {
                 letter: 0,
@@ -203,14 +210,14 @@ impl<'a, B: Hierarchy> Hierarchy for Pile<'a, B> {
     }
 
     fn has_edge(&self, i: usize, p: usize, w: usize) -> bool {
-        match self.size_from(0) {
+        match self.size() {
             Size::Fits(_, _) => self.has_edge_from(0, i, p, w),
             Size::TooLarge => false,
         }
     }
 
     fn has_leave(&self, i: usize, b: usize, e: usize, w: usize) -> bool {
-        match self.size_from(0) {
+        match self.size() {
             Size::Fits(_, _) => self.has_leave_from(0, i, b, e, w),
             Size::TooLarge => false,
         }

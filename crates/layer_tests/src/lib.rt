@@ -1,5 +1,7 @@
 // Layers upon layers: that they make piles, as contracts, and their sizes on wheels, as tests.
 // Tests stand in a crate of their own, since a crate with tests is proved twice.
+#![tactic(auto)]
+
 ghost use Rattle.std.specs.Prelude.{◌≡◌, [], ◌∷◌, map};
 ghost use Rattle.hierarchy.specs.Answers.{size_told};
 ghost use Rattle.monitor.specs.Product.{laid};
@@ -74,6 +76,17 @@ mod tests {
         assert_eq!(rt; size_of_pile(&wheel, &[monitor]), Size::Fits(128, 128));
         assert_eq!(rt; size_of_pile(&wheel, &[monitor; 2]), Size::Fits(1024, 1024));
         assert_eq!(rt; size_of_pile(&wheel, &[monitor; 3]), Size::TooLarge);
+        Ok(())
+    }
+
+    #[test]
+    fn more_than_ten_monitors_are_too_large(rt: HostRuntime) -> Result<(), Fail> {
+        let monitor = Monitor::new();
+        let wheel = Wheel::new(&[1])?;
+        assert_eq!(rt; size_of_pile(&wheel, &[monitor; 8]), Size::Fits(256, 768));
+        assert_eq!(rt; size_of_pile(&wheel, &[monitor; 11]), Size::TooLarge);
+        let many = vec![in rt.alloc(); monitor; 100_000]?;
+        assert_eq!(rt; size_of_pile(&wheel, &many), Size::TooLarge);
         Ok(())
     }
 

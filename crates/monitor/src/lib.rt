@@ -1,5 +1,7 @@
 // Monitors: small Büchi automata, built edit by edit and laid over any hierarchy.
 // What a hierarchy becomes with a monitor laid over it is defined here too.
+#![tactic(auto)]
+
 ghost use Rattle.std.specs.Prelude.{◌≤◌};
 
 use crate::steps::Steps;

@@ -1,5 +1,7 @@
 // Why piles of monitors are right: theorems about every lawful hierarchy and all automata laid over it.
 // A function here does nothing; its contract is the theorem that its name says.
+#![tactic(auto)]
+
 ghost use Rattle.piles.specs.OnePile.{OneMonitor, PileDepth, PileGood, PileLarge, PileLawful, PileSizes, SameMeaning};
 ghost use Rattle.piles.specs.Witnesses.{PilesTell};
 

@@ -1,6 +1,6 @@
 -- A chart, and a layer of one monitor over it, are never too large, and their reachable states have few boxes.
 -- Assumes nothing.
-use Rattle.std.proofs.Common.{◌≡◌, ℕ, ◌*◌, ◌<◌, ◌≤◌, false, ◌||◌, ltb, [], ◌∷◌, length, refl, ◌∙◌, mul-le-mul, arith}
+use Rattle.std.proofs.Common.{◌≡◌, ◌*◌, ◌≤◌, false, ◌||◌, [], ◌∷◌, length, refl, ◌∙◌, mul-le-mul, arith}
 use Rattle.std.proofs.lemmas.Bool.{le-ltb}
 use Rattle.sheet.specs.Sheet.{meaning_of, longest}
 use Rattle.sheet.proofs.Means.{longest_le}

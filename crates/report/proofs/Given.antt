@@ -1,6 +1,6 @@
 -- Lines of a refusal or a fault fit into 80 bytes, and what is written of them is given.
 -- Assumes nothing.
-use Rattle.std.proofs.Common.{◌≡◌, ℕ, ◌+◌, ◌^◌, ◌<◌, ◌≤◌, List, [], ◌∷◌, ◌++◌, length, take, drop, Some, None, codes, decimal, sym, refl, ap, ◌∙◌, arith}
+use Rattle.std.proofs.Common.{◌≡◌, ℕ, ◌+◌, ◌^◌, ◌<◌, ◌≤◌, List, ◌++◌, length, take, drop, Some, None, codes, decimal, sym, refl, ap, ◌∙◌, arith}
 use Rattle.std.proofs.lemmas.Bool.{cond_above}
 use Rattle.hierarchy.specs.declared.refusal.Refusal.TheVariants.{TooLittleMemory}
 use Rattle.std.proofs.lemmas.List.{length-append}

@@ -1,10 +1,10 @@
 -- How long the lines of a report are: the states that a run goes through have few boxes and small numbers.
 -- Assumes nothing.
-use Rattle.std.proofs.Common.{◌≡◌, ℕ, zero, suc, ◌+◌, ◌*◌, ◌^◌, ◌<◌, ◌≤◌, Bool, true, false, List, [], ◌∷◌, ◌++◌, length, codes, decimal, sym, subst, arith}
+use Rattle.std.proofs.Common.{◌≡◌, ℕ, zero, suc, ◌+◌, ◌*◌, ◌<◌, ◌≤◌, Bool, true, false, List, ◌∷◌, ◌++◌, length, codes, decimal, sym, subst, arith}
 use Rattle.std.proofs.lemmas.List.{length-append}
 use Rattle.std.proofs.lemmas.Fmt.{length-decimal-le}
-use Rattle.hierarchy.specs.Meaning.{Meaning, Lawful, node}
-use Rattle.hierarchy.specs.Flat.{State, at, within, Step, Star, stop, Reach}
+use Rattle.hierarchy.specs.Meaning.{Meaning, Lawful}
+use Rattle.hierarchy.specs.Flat.{State, at, within, stop, Reach}
 use Rattle.hierarchy.specs.Runs.{Run}
 use Rattle.theory.specs.Hops.{HopReach, a_node}
 use Rattle.theory.specs.OneSearch.{boxes}

@@ -1,10 +1,10 @@
 -- The pieces of a state's line: its boxes with their dots, one box after another, and its node.
 -- Assumes nothing.
-use Rattle.std.proofs.Common.{◌≡◌, ℕ, suc, ◌+◌, ◌<◌, ◌≤◌, Bool, true, false, cond, List, [], ◌∷◌, ◌++◌, length, get_or, take, drop, Some, None, decimal, Option, sym, refl, ap, ◌∙◌, subst, arith}
+use Rattle.std.proofs.Common.{◌≡◌, ℕ, ◌+◌, ◌<◌, ◌≤◌, Bool, true, false, cond, List, [], ◌∷◌, ◌++◌, length, get_or, take, drop, Some, None, decimal, Option, sym, refl, ap, ◌∙◌, subst, arith}
 use borrow.Author.Tests.{both_ways}
-use Rattle.std.proofs.lemmas.List.{append_assoc, append-nil, length-append, take_more, take-append-drop}
+use Rattle.std.proofs.lemmas.List.{append_assoc, length-append, take_more, take-append-drop}
 use Rattle.hierarchy.specs.Meaning.{Meaning}
-use Rattle.hierarchy.specs.Flat.{State, at, within, initial, last_node}
+use Rattle.hierarchy.specs.Flat.{initial, last_node}
 use Rattle.walk.specs.declared.frame.Frame.{Frame}
 use Rattle.walk.specs.declared.steps.Walk.{Walk}
 use Rattle.walk.specs.Walks.{inmost, shown}

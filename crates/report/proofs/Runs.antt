@@ -1,8 +1,8 @@
 -- The lines of a run, one after another, and how long they are.
 -- Assumes nothing.
-use Rattle.std.proofs.Common.{◌≡◌, ℕ, zero, suc, ◌+◌, ◌<◌, ◌≤◌, List, [], ◌∷◌, ◌++◌, length, sym, refl, ap, ◌∙◌, subst, add-one, arith}
+use Rattle.std.proofs.Common.{◌≡◌, ℕ, zero, suc, ◌+◌, ◌<◌, List, [], ◌++◌, sym, refl, ap, ◌∙◌, subst, add-one, arith}
 use native.Mathlib.Decide.{ℕ_discrete}
-use Rattle.std.proofs.lemmas.List.{append_assoc, append-nil, length-append}
+use Rattle.std.proofs.lemmas.List.{append_assoc, append-nil}
 use Rattle.hierarchy.specs.Meaning.{Meaning}
 use Rattle.hierarchy.specs.Flat.{State}
 use Rattle.report.specs.Text.{state_line, run_lines}

@@ -1,6 +1,6 @@
 -- From what is written to the report that it is: the head alone, or the head and the lines of an endless run.
 -- Assumes nothing.
-use Rattle.std.proofs.Common.{◌≡◌, ℕ, zero, suc, ◌+◌, ◌*◌, ◌≤◌, Bool, true, false, cond, ltb, List, ◌++◌, length, take, drop, is_err, Some, None, Ok, Err, Option, Result, sym, refl, ap, ◌∙◌, subst, arith}
+use Rattle.std.proofs.Common.{◌≡◌, ℕ, zero, suc, ◌+◌, ◌*◌, ◌≤◌, Bool, true, false, cond, ltb, List, ◌++◌, length, take, drop, is_err, Some, None, Ok, Err, Result, sym, refl, ap, ◌∙◌, subst, arith}
 use borrow.Author.Tests.{both_ways}
 use Rattle.std.proofs.lemmas.Bool.{or_parts, ltb-false}
 use Rattle.hierarchy.specs.declared.refusal.Refusal.TheVariants.{TooLarge, TooLittleMemory}
@@ -10,14 +10,13 @@ use Rattle.std.proofs.lemmas.List.{length-append}
 use Rattle.std.specs.Result.{result_err}
 use Rattle.hierarchy.specs.Meaning.{Meaning, Lawful}
 use Rattle.hierarchy.specs.Flat.{State, Reaches, Recurs}
-use Rattle.hierarchy.specs.Runs.{Endless}
 use Rattle.hierarchy.specs.declared.refusal.Refusal.{Refusal}
 use Rattle.guide.specs.Trees.{Guide, Good}
 use Rattle.judge.specs.Known.{Decides}
 use Rattle.walk.specs.Walks.{walk, shown, ShowsRun}
 use Rattle.walk.proofs.Endless.{walk_shows_run}
 use Rattle.report.specs.Text.{state_line, head_text, run_lines}
-use Rattle.report.specs.Writing.{over, Room, Wrote, WroteSome}
+use Rattle.report.specs.Writing.{Room, Wrote, WroteSome}
 use Rattle.report.specs.Report.{short, report_refusal, Report, Printed, Prints, PrintsAlways, FewBoxes}
 use Rattle.report.proofs.Writings.{front_over, behind_over, room_rest, wrote_then}
 use Rattle.report.proofs.Lengths.{head_length, six_lines}

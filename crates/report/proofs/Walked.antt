@@ -1,6 +1,6 @@
 -- A walk by a good guide, and the lines of its states as they are written.
 -- Assumes nothing.
-use Rattle.std.proofs.Common.{◌≡◌, ℕ, suc, ◌+◌, ◌<◌, true, List, ◌++◌, length, is_ok, None, Result, sym, refl, ap, ◌∙◌, subst}
+use Rattle.std.proofs.Common.{◌≡◌, ℕ, suc, ◌+◌, ◌<◌, true, List, ◌++◌, length, is_ok, None, Result, sym, ap, ◌∙◌, subst}
 use Rattle.hierarchy.specs.Meaning.{Meaning}
 use Rattle.hierarchy.specs.Flat.{State}
 use Rattle.hierarchy.specs.declared.refusal.Refusal.{Refusal}

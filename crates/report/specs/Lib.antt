@@ -3,3 +3,4 @@ pub mod Text
 pub mod Report
 pub mod Refused
 pub mod Judged
+pub mod FileReports

@@ -15,7 +15,7 @@ use judge::{Verdict, judge};
 use walk::Frame;
 
 // How many bytes of output a report needs at least, whatever it prints.
-const OUTPUT: usize = 2048;
+pub(crate) const OUTPUT: usize = 2048;
 
 // Whether there are too few guide records, frames or output bytes for a hierarchy of this size.
 fn is_short(structures: usize, places: usize, records: usize, frames: usize, bytes: usize) -> bool

@@ -1,5 +1,7 @@
 // The report: what is printed of a chart, bare or under one monitor, as bytes in lent memory.
 // And the bytes that are printed of a refusal.
+#![tactic(auto)]
+
 ghost use Rattle.std.specs.Prelude.{◌≡◌, true, length, is_err};
 ghost use Rattle.std.specs.Result.{result_err};
 ghost use Rattle.sheet.specs.Sheet.{meaning_of};
@@ -9,6 +11,7 @@ ghost use Rattle.monitor.specs.Tables.{automaton_of};
 ghost use Rattle.report.specs.Judged.{judged};
 ghost use Rattle.report.specs.Report.{report_refusal, Prints};
 
+mod file;
 mod judged;
 mod lines;
 mod refused;
@@ -17,6 +20,7 @@ mod text;
 
 use crate::judged::report_on;
 use chart::Chart;
+pub use file::report_file;
 use guide::GuideRecord;
 use hierarchy::Refusal;
 use layer::Layer;

@@ -4,8 +4,7 @@ use chartfile::{Fault, load};
 use guide::GuideRecord;
 use hierarchy::Refusal;
 use monitor::Monitor;
-use report::{fault_text, refusal_text, report_chart, report_monitored};
-use std::process::Abort;
+use report::{fault_text, refusal_text, report_chart, report_file, report_monitored};
 use walk::Frame;
 
 const SAMPLE: [u8; 31] = [
@@ -21,16 +20,16 @@ const REFUSAL_TEXT: &[u8] = b"refused 7\n#";
 const FAULT_TEXT: &[u8] = b"refused 3 record 2 byte 2\n#";
 
 // The sample's chart, and a monitor without steps.
-fn sample(rt: &impl Abort) -> (Chart, Monitor) {
+fn sample() -> Result<(Chart, Monitor), Fault> {
     let mut chart = Chart::new();
     let mut monitor = Monitor::new();
-    assert!(rt; load(&SAMPLE, &mut chart, &mut monitor).is_ok());
-    (chart, monitor)
+    load(&SAMPLE, &mut chart, &mut monitor)?;
+    Ok((chart, monitor))
 }
 
 #[test]
-fn the_sample_is_printed(rt: HostRuntime) {
-    let (chart, _) = sample(&rt);
+fn the_sample_is_printed(rt: HostRuntime) -> Result<(), Fault> {
+    let (chart, _) = sample()?;
     let mut guide = [GuideRecord::blank(); 9];
     let mut frames = [Frame::blank(); 2];
     let mut output = [b'#'; 2048];
@@ -39,11 +38,12 @@ fn the_sample_is_printed(rt: HostRuntime) {
         Err(_) => assert!(rt; false),
     }
     assert!(rt; output.starts_with(TEXT));
+    Ok(())
 }
 
 #[test]
-fn a_layer_is_printed_by_its_own_size(rt: HostRuntime) {
-    let (chart, monitor) = sample(&rt);
+fn a_layer_is_printed_by_its_own_size(rt: HostRuntime) -> Result<(), Fault> {
+    let (chart, monitor) = sample()?;
     let mut guide = [GuideRecord::blank(); 30];
     let mut frames = [Frame::blank(); 4];
     let mut output = [b'#'; 2048];
@@ -52,11 +52,12 @@ fn a_layer_is_printed_by_its_own_size(rt: HostRuntime) {
         Err(_) => assert!(rt; false),
     }
     assert!(rt; output.starts_with(LAYER_TEXT));
+    Ok(())
 }
 
 #[test]
-fn too_little_memory_is_refused(rt: HostRuntime) {
-    let (chart, _) = sample(&rt);
+fn too_little_memory_is_refused(rt: HostRuntime) -> Result<(), Fault> {
+    let (chart, _) = sample()?;
     let mut guide = [GuideRecord::blank(); 9];
     let mut frames = [Frame::blank(); 2];
     let mut output = [b'#'; 2048];
@@ -64,6 +65,30 @@ fn too_little_memory_is_refused(rt: HostRuntime) {
     assert!(rt; report_chart(&chart, &mut guide, &mut frames[..1], &mut output).is_err());
     assert!(rt; report_chart(&chart, &mut guide, &mut frames, &mut output[..2047]).is_err());
     assert!(rt; output[0] == b'#');
+    Ok(())
+}
+
+#[test]
+fn a_file_is_printed_or_its_fault(rt: HostRuntime) {
+    let mut guide = [GuideRecord::blank(); 9];
+    let mut frames = [Frame::blank(); 2];
+    let mut output = [b'#'; 2048];
+    assert!(rt; report_file(&SAMPLE, &mut guide, &mut frames, &mut output[..2047]).is_err());
+    assert!(rt; output[0] == b'#');
+    assert!(rt; report_file(&SAMPLE, &mut guide, &mut frames, &mut output).is_ok());
+    assert!(rt; output.starts_with(TEXT));
+    output = [b'#'; 2048];
+    assert!(rt; report_file(&[1, 2, 3, 0, 0], &mut guide, &mut frames, &mut output).is_ok());
+    assert!(rt; output.starts_with(FAULT_TEXT));
+}
+
+#[test]
+fn a_file_that_needs_more_memory_prints_the_refusal(rt: HostRuntime) {
+    let mut guide = [GuideRecord::blank(); 8];
+    let mut frames = [Frame::blank(); 2];
+    let mut output = [b'#'; 2048];
+    assert!(rt; report_file(&SAMPLE, &mut guide, &mut frames, &mut output).is_ok());
+    assert!(rt; output.starts_with(REFUSAL_TEXT));
 }
 
 #[test]

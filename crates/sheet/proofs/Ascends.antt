@@ -3,7 +3,7 @@ use Rattle.std.proofs.Common.{◌≡◌, ℕ, ◌<◌, Bool, true, false, cond, 
 use Rattle.std.proofs.lemmas.Bool.{true≢false}
 use Rattle.hierarchy.specs.declared.refusal.Refusal.{Refusal}
 use Rattle.hierarchy.specs.Refusals.{refusal_number, Refusals, first}
-use Rattle.sheet.specs.Edits.{already, node_refusals, box_refusals, exit_refusals, look_refusals, edge_refusals, leave_refusals}
+use Rattle.sheet.specs.Edits.{already, begin_refusals, node_refusals, box_refusals, exit_refusals, look_refusals, edge_refusals, leave_refusals}
 use Rattle.sheet.specs.Least.{Holds, GivesLeast, LeastRefusalFirst}
 
 -- each number is above n, and above the one before
@@ -40,6 +40,7 @@ already_above n h false there = (omega arith, tt)
 
 pub least_refusal_first_lem : LeastRefusalFirst
 least_refusal_first_lem = record {
+  begin = λ n. ascending_gives_least 0 (begin_refusals n) (lit< tt, tt);
   node = λ s i l. ascending_gives_least 0 (node_refusals s i l) (lit< tt, (lit< tt, (lit< tt, tt)));
   box = λ s i j. ascending_gives_least 0 (box_refusals s i j) (lit< tt, (lit< tt, (lit< tt, tt)));
   exit = λ s i p. ascending_gives_least 0 (exit_refusals s i p) (lit< tt, (lit< tt, (lit< tt, (lit< tt, tt))));

@@ -1,6 +1,6 @@
 -- Whatever the edits and however many are refused, the sheet of a begun chart means a lawful hierarchy.
 -- Assumes nothing.
-use Rattle.std.proofs.Common.{◌≡◌, ℕ, ◌<◌, ◌≤◌, Bool, true, false, List, [], ◌∷◌, ◌++◌, length, set, Some, None, Option, sym, refl, ◌∙◌, subst, arith}
+use Rattle.std.proofs.Common.{◌≡◌, ℕ, ◌<◌, ◌≤◌, Bool, true, false, List, [], ◌∷◌, ◌++◌, length, set, Some, None, Option, refl, ◌∙◌, arith}
 use Rattle.std.proofs.lemmas.List.{length-replicate, length-set, length_push}
 use Rattle.hierarchy.specs.Meaning.{Lawful}
 use Rattle.hierarchy.specs.Refusals.{first}

@@ -1,6 +1,6 @@
 -- What the edits do to one structure of a sheet.
 -- Assumes nothing.
-use Rattle.std.specs.Prelude.{ℕ, Bool, false, cond, [], ◌∷◌, ◌++◌, set, ◌==◌, slice_set}
+use Rattle.std.specs.Prelude.{ℕ, Bool, false, cond, [], ◌∷◌, ◌++◌, ◌==◌, slice_set}
 use Rattle.sheet.specs.declared.Spot.{Spot}
 use Rattle.sheet.specs.declared.Spot.TheVariants.{Node}
 use Rattle.sheet.specs.Sheet.{Structure, Sheet, at}

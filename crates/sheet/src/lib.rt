@@ -1,5 +1,7 @@
 // The sheet: what a chart is by its edits alone, and the edits as values.
 // The meaning stands in specs; here are the values that edits and sheets are made of.
+#![tactic(auto)]
+
 ghost use Rattle.sheet.specs.Least.{LeastRefusalFirst};
 
 // What stands at a place of a chart: a node with its look, an exit or not, or a box with its inner structure's number.

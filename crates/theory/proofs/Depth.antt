@@ -1,10 +1,10 @@
 -- Reachable states are shallow, their numbers are small, and so they are finitely many: a list that has them all.
 -- Assumes nothing.
-use Rattle.std.proofs.Common.{◌≡◌, ℕ, zero, suc, ◌+◌, ◌<◌, ◌≤◌, false, List, [], ◌∷◌, ◌++◌, map, refl, ap, arith}
+use Rattle.std.proofs.Common.{◌≡◌, ℕ, zero, suc, ◌+◌, ◌<◌, ◌≤◌, List, [], ◌∷◌, ◌++◌, map, ap, arith}
 use mathlib.Core.List.Memᴰ
 use mathlib.Core.List.{Memᴰ}
 use native.Mathlib.Decide.{ℕ_discrete}
-use Rattle.hierarchy.specs.Meaning.{Meaning, Kind, absent, node, box, Lawful}
+use Rattle.hierarchy.specs.Meaning.{Meaning, node, box, Lawful}
 use Rattle.hierarchy.specs.Flat.{State, at, within, Reach}
 use Rattle.theory.specs.Hops.{HopReach, a_node, in_box}
 use Rattle.theory.specs.OneSearch.{boxes, Shallow}

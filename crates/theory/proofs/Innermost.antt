@@ -1,7 +1,7 @@
 -- The flat form read from inside is the flat form read from outside: states, transitions and looks agree.
 -- Assumes nothing.
-use Rattle.std.proofs.Common.{◌≡◌, ℕ, ◌<◌, Bool, true, false, List, [], ◌∷◌, ◌++◌, sym, refl, ap, ◌∙◌, subst, arith}
-use Rattle.hierarchy.specs.Meaning.{Meaning, Kind, node, box, Lawful}
+use Rattle.std.proofs.Common.{◌≡◌, ℕ, ◌<◌, true, List, [], ◌∷◌, ◌++◌, sym, refl, ap, ◌∙◌, subst, arith}
+use Rattle.hierarchy.specs.Meaning.{Meaning, box, Lawful}
 use Rattle.hierarchy.specs.Flat.{State, at, within, inner_of, last_structure, last_node, Enter, to_node, to_box, Step, by_edge, by_leave, inside, Reach}
 use Rattle.theory.specs.Innermost.{ListState, Into, there, through, FlatState, Arrive, at_node, at_entry, Move, edge_inside, leave_box}
 use Rattle.theory.specs.Innermost.{boxes_of, listed, nested, SameStates, FlatFormReadFromInside, InnermostLooks, ReachableAreFlat}

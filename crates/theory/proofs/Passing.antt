@@ -1,11 +1,11 @@
 -- An exit is reached by a path that meets a mark exactly if the hops say so.
 -- A path from a state inside a box stays there, or goes out by a leave. Assumes nothing.
-use Rattle.std.proofs.Common.{◌≡◌, ℕ, ◌<◌, Bool, true, refl, subst, arith}
-use Rattle.hierarchy.specs.Meaning.{Meaning, Kind, absent, node, box, Lawful}
+use Rattle.std.proofs.Common.{◌≡◌, ℕ, ◌<◌, true, refl, arith}
+use Rattle.hierarchy.specs.Meaning.{Meaning, absent, box, Lawful}
 use Rattle.hierarchy.specs.Flat.{State, at, within, Marked, Enter, to_node, to_box, Step, by_edge, by_leave, inside, Star, stop, step, Plus, Reach}
-use Rattle.theory.specs.Hops.{Meets, PassMarked, HopMarked, over!, through!, Hops, HopReach, a_node, in_box, HopPass, at_end, on_way}
+use Rattle.theory.specs.Hops.{PassMarked, HopMarked, over!, through!, HopReach, a_node, in_box, HopPass, at_end, on_way}
 use Rattle.theory.specs.OneSearch.{Passing}
-use Rattle.theory.proofs.Paths.{append, snoc, plus_path, plus_snoc, same_box, node_not_box, enter_present, path_inside, marked_inside, marked_below}
+use Rattle.theory.proofs.Paths.{append, plus_path, plus_snoc, same_box, node_not_box, enter_present, path_inside, marked_inside, marked_below}
 use Rattle.theory.proofs.Reaching.{leave_exit, hops_path, hops_enter, path_keeps, node_hops, reach→hops}
 
 module _ {m : Meaning} (L : Lawful m) where

@@ -1,7 +1,7 @@
 -- The flat states of a structure that are reachable are those that its own hops give.
 -- One invariant, HopReach, is kept by every step. Assumes nothing.
-use Rattle.std.proofs.Common.{◌≡◌, ℕ, ◌<◌, Bool, true, refl, subst, arith}
-use Rattle.hierarchy.specs.Meaning.{Meaning, Kind, absent, node, box, Lawful}
+use Rattle.std.proofs.Common.{◌≡◌, ℕ, ◌<◌, true, subst}
+use Rattle.hierarchy.specs.Meaning.{Meaning, absent, node, box, Lawful}
 use Rattle.hierarchy.specs.Flat.{State, at, within, Enter, to_node, to_box, Step, by_edge, by_leave, inside, Star, stop, step, Reach}
 use Rattle.theory.specs.Hops.{Pass, Hop, over, through, Hops, HopReach, a_node, in_box}
 use Rattle.theory.specs.OneSearch.{Reaching}

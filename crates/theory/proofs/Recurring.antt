@@ -1,9 +1,9 @@
 -- A marked state is reachable exactly if hops reach a marked node of a reached structure; it reaches itself exactly if a
 -- reached structure has a marked round of hops. Assumes nothing.
-use Rattle.std.proofs.Common.{◌≡◌, ℕ, ◌<◌, Bool, true, false, refl, subst, arith}
-use Rattle.hierarchy.specs.Meaning.{Meaning, Kind, absent, node, box, Lawful}
+use Rattle.std.proofs.Common.{◌≡◌, ℕ, ◌<◌, true, false, arith}
+use Rattle.hierarchy.specs.Meaning.{Meaning, box, Lawful}
 use Rattle.hierarchy.specs.Flat.{State, at, within, Marked, Enter, to_node, to_box, Step, by_edge, by_leave, inside, Star, stop, step, Plus, Reach, Reaches, Recurs}
-use Rattle.theory.specs.Hops.{HopMarked, over!, Hops, Reached, top, by_box, HopReach, a_node, MarkedRound, MarkedNode}
+use Rattle.theory.specs.Hops.{over!, Reached, top, by_box, HopReach, MarkedRound, MarkedNode}
 use Rattle.theory.specs.OneSearch.{Marking, Recurring}
 use Rattle.theory.proofs.Paths.{append, same_box, enter_present, marked_inside, marked_below}
 use Rattle.theory.proofs.Reaching.{hops_path, hops_enter, path_keeps, node_hops, node_there, box_hops, box_there, box_reach, reach→hops}

@@ -4,7 +4,7 @@ use Rattle.std.proofs.Common.{◌≡◌, ℕ, zero, suc, ◌<◌, ◌≤◌, fal
 use native.Mathlib.Decide.{ℕ_discrete}
 use Rattle.hierarchy.specs.Meaning.{Meaning, Lawful}
 use Rattle.hierarchy.specs.Flat.{State, at, Marked, Step, Star, stop, step, Plus, initial, Reach, Recurs}
-use Rattle.hierarchy.specs.Runs.{Run, MarkedOften, Endless}
+use Rattle.hierarchy.specs.Runs.{Run, Endless}
 use Rattle.theory.specs.OneSearch.{Running}
 use Rattle.theory.proofs.Paths.{snoc}
 use Rattle.theory.proofs.Reaching.{reach→hops}

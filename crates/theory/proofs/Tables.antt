@@ -1,9 +1,8 @@
 -- Tables whose rows are right over the rows behind them are right, by induction downwards.
 -- Assumes nothing.
-use Rattle.std.proofs.Common.{◌≡◌, ℕ, ◌<◌, Bool, true, ◌↔◌}
-use Rattle.hierarchy.specs.Meaning.{Meaning, Kind, node, box, Lawful}
-use Rattle.hierarchy.specs.Flat.{State, at, Star, stop, step}
-use Rattle.theory.specs.Hops.{Pass, PassMarked, Hop, over, through, Hops, HopMarked, over!, through!, HopPass, at_end, on_way}
+use Rattle.std.proofs.Common.{◌≡◌, ℕ, ◌<◌, true, ◌↔◌}
+use Rattle.hierarchy.specs.Meaning.{Meaning, box, Lawful}
+use Rattle.theory.specs.Hops.{Hop, over, through, Hops, HopMarked, over!, through!, HopPass, at_end, on_way}
 use Rattle.theory.specs.Tables.{Table, TableHop, table_over, table_through, Row, TableHopMarked, table_over!, table_end!, table_through! }
 use Rattle.theory.specs.Tables.{TableBehindMark, RowMarked, BehindMark, Tabled, TabledMarks}
 use Rattle.theory.proofs.Paths.{star_map}

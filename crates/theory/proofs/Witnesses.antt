@@ -1,10 +1,10 @@
 -- The dot and the pair are lawful, reach a mark, and recur exactly if they turn or return.
 -- Assumes nothing.
-use Rattle.std.proofs.Common.{◌≡◌, ℕ, zero, suc, ◌<◌, ◌≤◌, Bool, true, false, cond, ◌&&◌, ◌||◌, eqb, ltb, leb, ◌≢◌, ◌⊎◌, sym, refl, subst, inl, inr, arith}
+use Rattle.std.proofs.Common.{◌≡◌, ℕ, zero, suc, ◌<◌, Bool, true, false, cond, ◌&&◌, eqb, ◌≢◌, ◌⊎◌, sym, refl, subst, inl, inr, arith}
 use Rattle.std.proofs.lemmas.Bool.Decides.{nat_tests}
-use Rattle.hierarchy.specs.Meaning.{Meaning, Kind, absent, node, box, Lawful}
-use Rattle.hierarchy.specs.Flat.{State, at, within, Enter, to_node, to_box, Step, by_edge, by_leave, inside, Star, stop, step, Reaches, Recurs}
-use Rattle.theory.specs.Hops.{Pass, PassMarked, Hop, over, through, HopMarked, over!, through!, Hops, Reached, top, MarkedRound}
+use Rattle.hierarchy.specs.Meaning.{Kind, absent, node, box, Lawful}
+use Rattle.hierarchy.specs.Flat.{at, within, to_node, to_box, by_edge, inside, stop, step, Reaches, Recurs}
+use Rattle.theory.specs.Hops.{Pass, PassMarked, over, through, HopMarked, over!, through!, Hops, top, MarkedRound}
 use Rattle.theory.specs.Witnesses.{dot, pair, Tells}
 use Rattle.theory.proofs.Recurring.{marked_round→recurs, recurs→marked_round}
 

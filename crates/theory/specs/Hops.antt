@@ -1,7 +1,7 @@
 -- A structure seen from inside it alone: hops between its places, and what hops say of the flat form.
 -- Assumes nothing.
-use Rattle.std.specs.Prelude.{◌≡◌, ℕ, Bool, true}
-use Rattle.hierarchy.specs.Meaning.{Meaning, Kind, absent, node, box}
+use Rattle.std.specs.Prelude.{◌≡◌, ℕ, true}
+use Rattle.hierarchy.specs.Meaning.{Meaning, node, box}
 use Rattle.hierarchy.specs.Flat.{State, at, within, Step, Marked, Star, Reach, initial}
 
 -- a path from a to c that meets a state of M, the ends included

@@ -1,7 +1,7 @@
 -- The flat form read from inside: a list of boxes, outermost first, and then a node; a transition follows an edge inside the
 -- innermost structure, or a leave of the innermost box when the node is that leave's exit. Assumes nothing.
-use Rattle.std.specs.Prelude.{◌≡◌, ℕ, Bool, true, false, ◌↔◌, List, [], ◌∷◌, ◌++◌}
-use Rattle.hierarchy.specs.Meaning.{Meaning, Kind, node, box, Lawful}
+use Rattle.std.specs.Prelude.{◌≡◌, ℕ, true, false, ◌↔◌, List, [], ◌∷◌, ◌++◌}
+use Rattle.hierarchy.specs.Meaning.{Meaning, node, box, Lawful}
 use Rattle.hierarchy.specs.Flat.{State, at, within, last_structure, last_node, Step, Reach}
 
 pub record ListState : Type 0 where

@@ -1,6 +1,6 @@
 -- Why one search of each structure suffices: the statements about reaching, passing, recurring and endless runs.
 -- Each holds of every lawful meaning that is not too large. Assumes nothing.
-use Rattle.std.specs.Prelude.{◌≡◌, ℕ, suc, ◌<◌, Bool, true, false, ◌↔◌}
+use Rattle.std.specs.Prelude.{◌≡◌, ℕ, suc, ◌<◌, true, false, ◌↔◌}
 use Rattle.hierarchy.specs.Meaning.{Meaning, Lawful}
 use Rattle.hierarchy.specs.Flat.{State, at, within, Reach, Reaches, Recurs}
 use Rattle.hierarchy.specs.Runs.{Endless}

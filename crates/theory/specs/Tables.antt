@@ -1,6 +1,6 @@
 -- Tables of what the entry of each structure reaches by hops, and of what it reaches behind a mark; a row looks only at
 -- the rows behind it, so they are filled from the last structure up to the first. Assumes nothing.
-use Rattle.std.specs.Prelude.{◌≡◌, ℕ, ◌<◌, Bool, true, false, ◌↔◌}
+use Rattle.std.specs.Prelude.{◌≡◌, ℕ, ◌<◌, Bool, true, ◌↔◌}
 use Rattle.hierarchy.specs.Meaning.{Meaning, Lawful, box}
 use Rattle.hierarchy.specs.Flat.{Star}
 use Rattle.theory.specs.Hops.{HopMarked, Hops}

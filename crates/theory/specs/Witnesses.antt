@@ -1,7 +1,7 @@
 -- Small lawful hierarchies that recur or do not, as one choice has it: what is proved of all is not proved of none.
 -- Assumes nothing.
-use Rattle.std.specs.Prelude.{◌≡◌, ℕ, Bool, true, false, cond, ◌&&◌, ◌||◌, ◌↔◌, ◌==◌, nat_lt}
-use Rattle.hierarchy.specs.Meaning.{Meaning, Kind, absent, node, box, Lawful}
+use Rattle.std.specs.Prelude.{◌≡◌, Bool, true, false, cond, ◌&&◌, ◌||◌, ◌↔◌, ◌==◌, nat_lt}
+use Rattle.hierarchy.specs.Meaning.{Meaning, absent, node, box, Lawful}
 use Rattle.hierarchy.specs.Flat.{Reaches, Recurs}
 
 -- a dot: one structure of one marked node, with an edge to itself if it turns

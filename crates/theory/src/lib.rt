@@ -1,5 +1,7 @@
 // Why one search of each structure is enough: theorems about every lawful hierarchy.
 // A function here does nothing; its contract is the theorem that its name says.
+#![tactic(auto)]
+
 ghost use Rattle.theory.specs.Innermost.{FlatFormReadFromInside, InnermostLooks, ReachableAreFlat, SameStates};
 ghost use Rattle.theory.specs.OneSearch.{Marking, Passing, Reaching, Recurring, Running, Shallow};
 ghost use Rattle.theory.specs.Tables.{Tabled, TabledMarks};

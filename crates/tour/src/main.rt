@@ -1,5 +1,7 @@
 // One task from start to end: a two-port schedule is drawn, stored, loaded, judged, found to starve a port, and mended.
 // Every sentence that is printed states what took place.
+#![tactic(auto)]
+
 mod draw;
 mod file;
 mod verdict;

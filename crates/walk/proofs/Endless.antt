@@ -9,7 +9,7 @@ use Rattle.guide.specs.Trees.{Good}
 use Rattle.walk.specs.declared.frame.Way.{Way}
 use Rattle.walk.specs.declared.frame.Way.TheVariants.{Pass, PassMarked, Lead, Ring}
 use Rattle.walk.specs.declared.frame.Frame.{Frame}
-use Rattle.walk.specs.Levels.{is_pass_lem, goal_of_lem, turn_way, turn_left, inner}
+use Rattle.walk.specs.Levels.{is_pass_lem, goal_of_lem, turn_way, turn_left}
 use Rattle.walk.specs.Walks.{Stack, inmost, outer, shown, land, done_at, ended, advance, walk, ShowsRun, Walking}
 use Rattle.walk.proofs.Paths.{append, down, marked_inside}
 use Rattle.walk.proofs.Climbs.{ring_apart, Seeded, seeds_of, deep}

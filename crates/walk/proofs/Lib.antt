@@ -10,5 +10,6 @@ pub mod Safe
 pub mod Outcomes
 pub mod Sizes
 pub mod Answered
+pub mod Along
 pub mod Showing
 pub mod Longer

@@ -1,5 +1,7 @@
 // The walk: it shows an endless run of a hierarchy's flat form, one transition at a time, by the guide that a judge left.
 // Guide and frames are lent memory: in whatever state they are, what a walk shows is a transition.
+#![tactic(auto)]
+
 ghost use Rattle.walk.specs.Walks.{Walking};
 
 pub mod frame;

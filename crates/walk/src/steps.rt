@@ -8,6 +8,7 @@ ghost use Rattle.judge.specs.Verdicts.{home_of};
 ghost use Rattle.walk.specs.Memory.{guide_by};
 ghost use Rattle.walk.specs.Standing.{Planned, stack_of};
 ghost use Rattle.walk.specs.Steps.{guide_for, levels, state_shown, lacking, plan_or, Answers, Same, Follows, Accepts, ring_home};
+ghost use Rattle.walk.specs.Onward.{StartsRun, Onward};
 ghost use Rattle.walk.specs.Walks.{walk};
 
 pub mod journey;
@@ -36,6 +37,7 @@ pub fn start(found: FoundMark) -> Walk
     ensures initial { (m : Meaning) (fs : List Frame) → state_shown m result fs ≡ initial m 0 }
     ensures levels { (m : Meaning) (g : Guide) (fs : List Frame) → levels m g result fs ≡ walk m g 0 }
     ensures home { ring_home result ≡ home_of found }
+    ensures run { StartsRun (home_of found) result }
 {
     Walk {
         home: found.spend(),
@@ -96,6 +98,7 @@ impl Walk {
         ensures follows { is_ok result ≡ true → Follows (B.Hierarchy.meaning h.now) (guide_for (B.Hierarchy.meaning h.now) guide.now self.old) self.old frames.old self.new frames.new }
         ensures accepted { Accepts (B.Hierarchy.meaning h.now) guide.now self.old frames.old result }
         ensures home { self.new.home ≡ self.old.home }
+        ensures onward { Onward (B.Hierarchy.meaning h.now) guide.now self.old frames.old result self.new frames.new }
     {
         let plan = plan_of(h, guide.len(), frames.len(), self.home)?;
         let stand = self.standing(h, guide, plan);

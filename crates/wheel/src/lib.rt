@@ -1,5 +1,7 @@
 // A wheel: a hierarchy worked out from sizes, one a level, as hours, minutes and seconds are.
 // It has no tables of places, edges or leaves; each answer is computed from the sizes.
+#![tactic(auto)]
+
 ghost use Rattle.std.specs.Prelude.{◌≡◌, ◌≤◌, true, length, take};
 ghost use Rattle.wheel.specs.Meaning.{sizes_right};
 

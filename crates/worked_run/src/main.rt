@@ -1,5 +1,7 @@
 // Judges the worked charts, wheels and piles, and tells of each, line by line, what the judge says of it.
 // A judge that makes one of the errors that nesting and monitors invite tells something else.
+#![tactic(auto)]
+
 mod charts;
 mod cycle;
 mod large;

@@ -1,4 +1,4 @@
-use Rattle.std.proofs.Common.{◌≡◌, length, is_some, Some, None, Ok, Err, Option, sym, refl, ap, ◌∙◌, subst, rules}
+use Rattle.std.proofs.Common.{◌≡◌, length, is_some, None, Err, Option, sym, refl, ap, ◌∙◌, subst, rules}
 use Rattle.std.proofs.lemmas.Bool.{true≢false, false≢true}
 use Rattle.hierarchy.specs.Flat.{Recurs}
 use Rattle.judge.specs.Known.{Decides}
@@ -15,34 +15,34 @@ returns-in-Some g c =
     let refused = c.in-Some.ensures in
     record { refused = refused; unchanged = λ _. (refl, refl); reach = tt; recur = tt; piles = judged_piles m _ _ (Err c.in-Some.refusal) refused tt; idle = tt; endless = tt }
 
-pub returns-in-err-walk : goal.returns-in-err-walk
-returns-in-err-walk g c =
+pub returns-in_err-walk-in-Some-recur : goal.returns-in_err-walk-in-Some-recur
+returns-in_err-walk-in-Some-recur g c =
     let m = g.B.Hierarchy.meaning c.args.h.now in
-    let v = c.in-ok-verdict.ensures in
+    let v = c.in_ok-verdict.ensures in
     let good : Good m (guide_home m c.judge.new.guide (home_of c.in-Some-recur.found))
     = subst (λ (o : Option FoundMark). Guides m c.judge.new.guide o) c.in-Some-recur.is v.guides in
     let k : length c.judge.new.guide ≡ length c.args.guide.now = search rules in
     let enough : lacking m (length c.judge.new.guide) (length c.args.frames.now) ≡ None
-    = ap (λ n. lacking m n (length c.args.frames.now)) k ∙ sym c.in-default.ensures in
-    absurd (accepted_not_err c.walk-on.result c.in-err-walk.field-0.0 (c.walk-on.ensures.accepted good enough) c.in-err-walk.was)
+    = ap (λ n. lacking m n (length c.args.frames.now)) k ∙ sym c.in_default.ensures in
+    absurd (accepted_not_err c.walk_on.result c.in_err-walk-in-Some-recur.field-0.0 (c.walk_on.ensures.accepted good enough) c.in_err-walk-in-Some-recur.was)
 
 pub returns-in-None : goal.returns-in-None
 returns-in-None g c =
     let m = g.B.Hierarchy.meaning c.args.h.now in
-    let v = c.in-ok-verdict.ensures in
-    let refused = c.in-default.ensures in
+    let v = c.in_ok-verdict.ensures in
+    let refused = c.in_default.ensures in
     let recur = subst (λ (o : Option FoundMark). Decides (is_some o) (Recurs m)) c.in-None.is v.recur in
     record { refused = refused; unchanged = λ e. absurd (false≢true e); reach = v.reach; recur = recur; piles = judged_piles m _ _ _ refused recur; idle = λ _. refl; endless = tt }
 
-pub returns-in-ok-walk : goal.returns-in-ok-walk
-returns-in-ok-walk g c =
+pub returns-in_ok-walk-in-Some-recur : goal.returns-in_ok-walk-in-Some-recur
+returns-in_ok-walk-in-Some-recur g c =
     let m = g.B.Hierarchy.meaning c.args.h.now in
-    let v = c.in-ok-verdict.ensures in
-    let refused = c.in-default.ensures in
+    let v = c.in_ok-verdict.ensures in
+    let refused = c.in_default.ensures in
     let recur = subst (λ (o : Option FoundMark). Decides (is_some o) (Recurs m)) c.in-Some-recur.is v.recur in
     let good : Good m (guide_home m c.judge.new.guide (home_of c.in-Some-recur.found))
     = subst (λ (o : Option FoundMark). Guides m c.judge.new.guide o) c.in-Some-recur.is v.guides in
-    let w = c.in-ok-walk.ensures in
+    let w = c.in_ok-walk-in-Some-recur.ensures in
     record {
       refused = refused;
       unchanged = λ e. absurd (false≢true e);
@@ -50,6 +50,6 @@ returns-in-ok-walk g c =
       recur = recur;
       piles = judged_piles m _ _ _ refused recur;
       idle = λ e. absurd (true≢false e);
-      endless = walks_on m c.judge.new.guide c.walk-on.new.frames _ c.args.n c.in-ok-walk.walk good
+      endless = walks_on m c.judge.new.guide c.walk_on.new.frames _ c.args.n c.in_ok-walk-in-Some-recur.walk good
           (w.endless good (lacks_none_fits m _ _ (sym refused))) w.home w.shown w.way;
     }

@@ -8,8 +8,8 @@ use Rattle.report.specs.Report.{FewBoxes, report_refusal, Prints}
 use Rattle.report.proofs.Bounds.{layer_fits, layer_boxes}
 use Rattle.report.proofs.report_monitored.Goals as goal
 
-pub report-on-requires : goal.report-on-requires
-report-on-requires c =
+pub report_on-requires : goal.report_on-requires
+report_on-requires c =
     let e = c.new-layer.ensures in
     let same : product (meaning_of (sheet c.args.chart.now)) (automaton_of c.args.monitor.now) ≡ product (meaning_of (sheet c.new-layer.result.below.now)) (automaton_of c.new-layer.result.monitor) =
     λ x. product (meaning_of (sheet (sym e.below x).now)) (automaton_of (sym e.monitor x)) in
@@ -23,9 +23,9 @@ returns c =
     let e = c.new-layer.ensures in
     let same : product (meaning_of (sheet c.new-layer.result.below.now)) (automaton_of c.new-layer.result.monitor) ≡ product (meaning_of (sheet c.args.chart.now)) (automaton_of c.args.monitor.now) =
     λ x. product (meaning_of (sheet (e.below x).now)) (automaton_of (e.monitor x)) in
-    let r = c.report-on.ensures in
+    let r = c.report_on.ensures in
     record {
       refused = r.refused ∙ ap (λ (m : Meaning). report_refusal m (length c.args.guide.now) (length c.args.frames.now) (length c.args.output.now)) same;
       unaltered = r.unaltered;
-      printed = subst (λ (m : Meaning). Prints m c.args.output.now c.report-on.new.output c.report-on.result) same r.printed;
+      printed = subst (λ (m : Meaning). Prints m c.args.output.now c.report_on.new.output c.report_on.result) same r.printed;
     }

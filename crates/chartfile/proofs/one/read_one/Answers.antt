@@ -1,9 +1,8 @@
-use Rattle.std.proofs.Common.{◌≡◌, Bool, true, false, not, sym, refl, ◌∙◌}
+use Rattle.std.proofs.Common.{◌≡◌, Bool, true, false, not, is_ok, sym, refl, ap, ◌∙◌, ap₂}
 use mathlib.Core.Bool.{beq}
 use Rattle.std.proofs.lemmas.Bool.{true≢false, false≢true}
 use Rattle.std.proofs.lemmas.Result.{err_from_is_err_and}
 use Rattle.chartfile.specs.Files.{drawing, unreadable, misplaced, by_call}
-use Rattle.chartfile.proofs.Progress.{refused_unchanged}
 use Rattle.chartfile.proofs.one.read_one.Goals as goal
 
 unlike : (a b : Bool) → not (beq a b) ≡ true → a ≡ b → ⊥
@@ -18,26 +17,34 @@ alike true false h = h
 alike false true h = sym h
 alike false false h = refl
 
-pub returns-in-err-record : goal.returns-in-err-record
-returns-in-err-record c =
-    let p = err_from_is_err_and c.from-residual.result c.from-residual.ensures.1 in
-    rw (p.1, p.2) (record { refused = unreadable c.in-err-record.ensures; unchanged = refl })
+pub returns-in_err-record : goal.returns-in_err-record
+returns-in_err-record c =
+    let p = err_from_is_err_and c.from_residual.result c.from_residual.ensures.1 in
+    rw (p.1, p.2) (record {
+      read = record { refused = unreadable c.in_err-record.ensures; unchanged = refl };
+      unchanged = λ _. (refl, refl);
+    })
 
-pub returns-then-is-begin-first : goal.returns-then-is-begin-first
-returns-then-is-begin-first c = record {
-  refused = misplaced c.in-ok-record.record c.in-ok-record.rest.now c.in-ok-record.ensures
-      (λ e. unlike c.is_begin_lem.result c.args.first c.if-is-begin-first.true (c.is_begin_lem.ensures ∙ e));
-  unchanged = refl;
+pub returns-then-is_begin-first : goal.returns-then-is_begin-first
+returns-then-is_begin-first c = record {
+  read = record {
+    refused = misplaced c.in_ok-record.record c.in_ok-record.rest.now c.in_ok-record.ensures
+        (λ e. unlike c.is_begin.result c.args.first c.if-is_begin-first.true (c.is_begin.ensures ∙ e));
+    unchanged = refl;
+  };
+  unchanged = λ _. (refl, refl);
 }
 
-pub returns-in-err-perform : goal.returns-in-err-perform
-returns-in-err-perform c =
-    let p = err_from_is_err_and c.from-residual-in-err-perform.result c.from-residual-in-err-perform.ensures.1 in
-    let k = c.in-ok-record.record in
-    let d = drawing c.args.chart.now c.args.monitor.now in
-    let h = sym c.perform.ensures.answer ∙ c.in-err-perform.was in
+pub returns-in_err-perform : goal.returns-in_err-perform
+returns-in_err-perform c =
+    let p = err_from_is_err_and c.from_residual-in_err-perform.result c.from_residual-in_err-perform.ensures.1 in
+    let kept = c.perform.ensures.unchanged (ap is_ok c.in_err-perform.was) in
     rw (p.1, p.2) (record {
-      refused = by_call k c.in-ok-record.rest.now c.in-ok-record.ensures
-          (sym c.is_begin_lem.ensures ∙ alike c.is_begin_lem.result c.args.first c.if-is-begin-first.false) h;
-      unchanged = c.perform.ensures.after ∙ refused_unchanged d k _ h;
+      read = record {
+        refused = by_call c.in_ok-record.record c.in_ok-record.rest.now c.in_ok-record.ensures
+            (sym c.is_begin.ensures ∙ alike c.is_begin.result c.args.first c.if-is_begin-first.false)
+            (sym c.perform.ensures.answer ∙ c.in_err-perform.was);
+        unchanged = ap₂ drawing kept.0 kept.1;
+      };
+      unchanged = λ _. kept;
     })

@@ -10,8 +10,8 @@ returns-then-field-gt255 c =
 pub loop-field-preserved : goal.loop-field-preserved
 loop-field-preserved c =
     push_more (vec_items c.args.out.now) (vec_items c.loop-field.out) (vec_items c.push.new.self) c.args.fields.now
-    c.loop-field.field-index _ c.push.result (sym c.if-is-err.ensures.value) c.push.ensures.items c.loop-field.invariant
-    c.loop-field-test.true c.byte-of.ensures
+    c.loop-field.field-index _ c.push.result (sym c.if-is_err.ensures.value) c.push.ensures.items c.loop-field.invariant
+    c.loop-field-test.true c.byte_of.ensures
 
 pub returns : goal.returns
 returns c =

@@ -1,14 +1,12 @@
-use Rattle.std.proofs.Common.{◌≡◌, ℕ, Bool, true, false, cond, not, ◌&&◌, ltb, leb, List, map, length, is_some, Some, None, Ok, Err, Option, Result, sym, refl, ap, ◌∙◌, subst, arith}
-use Rattle.std.specs.Result.{result_err}
+use Rattle.std.proofs.Common.{◌≡◌, ℕ, Bool, true, false, cond, not, ◌&&◌, ltb, leb, List, map, length, is_some, Some, None, Ok, sym, refl, ap, ◌∙◌, subst, arith}
 use Rattle.hierarchy.specs.Flat.{Reaches}
-use Rattle.hierarchy.specs.declared.refusal.Refusal.{Refusal}
 use Rattle.hierarchy.specs.declared.refusal.Refusal.TheVariants.{TooManyStructures}
 use Rattle.monitor.specs.Automata.{Automaton}
 use Rattle.monitor.specs.Piles.{GoodRun}
 use Rattle.monitor.specs.Product.{laid}
 use Rattle.monitor.specs.Tables.{automaton_of}
 use Rattle.sheet.specs.Sheet.{Sheet, meaning_of}
-use Rattle.sheet.specs.Edits.{Outcome, begin, begun, settle}
+use Rattle.sheet.specs.Edits.{begun, settle}
 use Rattle.sheet.specs.Replay.{replayed}
 use Rattle.chart.specs.Charts.{sheet}
 use Rattle.judge.specs.Known.{Decides}
@@ -25,11 +23,11 @@ pub returns : goal.returns
 returns c =
     let automata = map automaton_of c.args.monitors.now in
     let k = c.args.structures in
-    let s0 = sheet c.new_chart.result in
-    let j = c.judge-under.ensures in
-    let r = c.judge-under.result in
+    let s0 = sheet c.new-chart.result in
+    let j = c.judge_under.ensures in
+    let r = c.judge_under.result in
     let t = not (ltb 0 k && leb k 32) in
-    let a = begun_by t s0 (begun k) (sym c.begin.ensures.answer ∙ c.in-ok-begin.was) in
+    let a = begun_by t s0 (begun k) (sym c.begin.ensures.answer ∙ c.in_ok-begin.was) in
     let e : sheet c.replay.new.self ≡ replayed (begun k) c.args.edits.now
     = c.replay.ensures ∙ ap (λ (s : Sheet). replayed s c.args.edits.now) (c.begin.ensures.after ∙ a.1) in
     let recur = subst (λ (s : Sheet). OnJudgment (λ v. Decides (is_some v.walk) (GoodRun (meaning_of s) automata)) r) e j.recur in
@@ -41,5 +39,5 @@ returns c =
       recur = recur;
       made = λ lists q. subst (λ (ms : List Automaton). OnJudgment (λ v. Decides (is_some v.walk) (GoodRun (meaning_of (replayed (begun k) c.args.edits.now)) ms)) r) q recur;
       idle = j.idle;
-      endless = subst (λ (s : Sheet). OnJudgment (λ v. WalkIs (WalksOn (laid automata (meaning_of s)) c.judge-under.new.guide c.judge-under.new.frames c.args.n) v.walk) r) e j.endless;
+      endless = subst (λ (s : Sheet). OnJudgment (λ v. WalkIs (WalksOn (laid automata (meaning_of s)) c.judge_under.new.guide c.judge_under.new.frames c.args.n) v.walk) r) e j.endless;
     }

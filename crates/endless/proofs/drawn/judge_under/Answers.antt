@@ -1,9 +1,8 @@
-use Rattle.std.proofs.Common.{◌≡◌, List, map, sym, refl, ap, ◌∙◌, subst, ap₂}
+use Rattle.std.proofs.Common.{◌≡◌, map, ap, ◌∙◌, subst}
 use Rattle.hierarchy.specs.Meaning.{Meaning}
 use Rattle.hierarchy.specs.Flat.{Reaches}
 use Rattle.monitor.specs.Product.{laid}
 use Rattle.monitor.specs.Tables.{automaton_of}
-use Rattle.monitor.specs.declared.Monitor.{Monitor}
 use Rattle.layer.specs.Piles.{pile}
 use Rattle.judge.specs.Known.{Decides}
 use Rattle.endless.specs.Judgments.{OnJudgment, WalkIs, WalksOn}
@@ -15,8 +14,8 @@ returns g c =
     let automata = map automaton_of c.args.monitors.now in
     let x = c.new-pile.result in
     let m = pile x.monitors.now (g.B.Hierarchy.meaning x.base.now) in
-    let j = c.judge-and-walk.ensures in
-    let r = c.judge-and-walk.result in
+    let j = c.judge_and_walk.ensures in
+    let r = c.judge_and_walk.result in
     let e : m ≡ laid automata b
     = ap (λ k. pile k.now (g.B.Hierarchy.meaning x.base.now)) c.new-pile.ensures.monitors
     ∙ ap (λ k. pile c.args.monitors.now (g.B.Hierarchy.meaning k.now)) c.new-pile.ensures.base in
@@ -27,5 +26,5 @@ returns g c =
       reach = subst (λ (k : Meaning). OnJudgment (λ v. Decides v.reach (Reaches k)) r) e j.reach;
       recur = p.recur;
       idle = j.idle;
-      endless = subst (λ (k : Meaning). OnJudgment (λ v. WalkIs (WalksOn k c.judge-and-walk.new.guide c.judge-and-walk.new.frames c.args.n) v.walk) r) e j.endless;
+      endless = subst (λ (k : Meaning). OnJudgment (λ v. WalkIs (WalksOn k c.judge_and_walk.new.guide c.judge_and_walk.new.frames c.args.n) v.walk) r) e j.endless;
     }

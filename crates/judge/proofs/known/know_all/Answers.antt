@@ -32,7 +32,7 @@ loop-i-preserved g c =
     let L = g.B.Hierarchy.lawful c.args.h.now in
     let T = look c.loop-i.guide c.args.places in
     elim c.if-get.branch [
-      | then-get w ↦ simp w.guide-is (behind_up m 0 T (look w.know-boxes.new.guide c.args.places) w.know-boxes.ensures.rest c.loop-i.invariant.0, knows_yes m L c.args.places c.requires.ready.places c.loop-i.i (omega (arith, c.requires.structures)) (sym (ap (λ x. x.reached) c.get.ensures) ∙ w.if-get.true) c.loop-i.invariant.1 w.know-boxes.ensures)
+      | then-get w ↦ simp w.guide-is (behind_up m 0 T (look w.know_boxes.new.guide c.args.places) w.know_boxes.ensures.rest c.loop-i.invariant.0, knows_yes m L c.args.places c.requires.ready.places c.loop-i.i (omega (arith, c.requires.structures)) (sym (ap (λ x. x.reached) c.get.ensures) ∙ w.if-get.true) c.loop-i.invariant.1 w.know_boxes.ensures)
       | else-get w ↦ simp w.guide-is (c.loop-i.invariant.0, knows_no m L c.args.places c.requires.ready.places c.loop-i.i (sym (ap (λ x. x.reached) c.get.ensures) ∙ w.if-get.false) c.loop-i.invariant.1)
     ]
 

@@ -5,7 +5,7 @@ use Rattle.judge.proofs.known.know_boxes.Goals as goal
 pub loop-b-preserved : goal.loop-b-preserved
 loop-b-preserved g c =
     let m = g.B.Hierarchy.meaning c.args.h.now in
-    shown_more m c.args.structure c.loop-b.b c.loop-b.invariant c.know-one.ensures
+    shown_more m c.args.structure c.loop-b.b c.loop-b.invariant c.know_one.ensures
 
 pub returns : goal.returns
 returns g c =

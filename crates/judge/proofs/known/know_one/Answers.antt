@@ -9,8 +9,8 @@ get-requires g c =
     let m = g.B.Hierarchy.meaning c.args.h.now in
     record { stands = stands_less _ _ c.args.structure m.structures (omega (arith, c.requires.inside)) c.requires.stands; inside = c.requires.below }
 
-pub reach-one-requires : goal.reach-one-requires
-reach-one-requires g c =
+pub reach_one-requires : goal.reach_one-requires
+reach_one-requires g c =
     let m = g.B.Hierarchy.meaning c.args.h.now in
     let L = g.B.Hierarchy.lawful c.args.h.now in
     record {

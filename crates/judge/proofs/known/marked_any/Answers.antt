@@ -5,7 +5,7 @@ use Rattle.std.proofs.lemmas.Bool.{both_ways}
 use Rattle.guide.specs.Layout.{look}
 use Rattle.judge.specs.Known.{MarkIn, known}
 use Rattle.judge.proofs.Knowing.{yes_is, no_is, mark_of, no_mark}
-use Rattle.judge.proofs.known.marked_any.Goals.{else-get-via-then-get+else-marked-in, else-get-via-else-get}
+use Rattle.judge.proofs.known.marked_any.Goals.{else-get-via-then-get+else-marked_in, else-get-via-else-get}
 use Rattle.judge.proofs.known.marked_any.Goals as goal
 
 pub get-requires : goal.get-requires
@@ -17,12 +17,12 @@ get-requires g c =
       inside = omega (arith, (L.sized c.requires.ready.fits).2, c.requires.ready.places);
     }
 
-pub returns-then-marked-in : goal.returns-then-marked-in
-returns-then-marked-in g c =
+pub returns-then-marked_in : goal.returns-then-marked_in
+returns-then-marked_in g c =
     let m = g.B.Hierarchy.meaning c.args.h.now in
     let L = g.B.Hierarchy.lawful c.args.h.now in
     let i = c.loop-i.i in
-    yes_is _ (mark_of m L (look c.args.guide.now c.args.places) c.requires.behind c.requires.knows i (omega (arith, c.loop-i-test.true, c.requires.structures)) (sym (ap (λ x. x.reached) c.get.ensures) ∙ c.if-get.true) (c.marked-in.ensures.sure c.if-marked-in.true))
+    yes_is _ (mark_of m L (look c.args.guide.now c.args.places) c.requires.behind c.requires.knows i (omega (arith, c.loop-i-test.true, c.requires.structures)) (sym (ap (λ x. x.reached) c.get.ensures) ∙ c.if-get.true) (c.marked_in.ensures.sure c.if-marked_in.true))
 
 pub loop-i-preserved : goal.loop-i-preserved
 loop-i-preserved g c =
@@ -30,7 +30,7 @@ loop-i-preserved g c =
     let T = look c.args.guide.now c.args.places in
     let i = c.loop-i.i in
     elim c.else-get.branch [
-      | else-get-via-then-get+else-marked-in w ↦ below_more (λ k. known T k ≡ true → MarkIn m k → ⊥) i c.loop-i.invariant (λ p x. w.marked-in.ensures.never w.if-marked-in.false x)
+      | else-get-via-then-get+else-marked_in w ↦ below_more (λ k. known T k ≡ true → MarkIn m k → ⊥) i c.loop-i.invariant (λ p x. w.marked_in.ensures.never w.if-marked_in.false x)
       | else-get-via-else-get w ↦ below_more (λ k. known T k ≡ true → MarkIn m k → ⊥) i c.loop-i.invariant (λ p x. both_ways _ w.if-get.false (ap (λ y. y.reached) c.get.ensures ∙ p))
     ]
 

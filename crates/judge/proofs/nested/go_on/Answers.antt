@@ -7,8 +7,8 @@ use Rattle.judge.proofs.Rings.{behind_from, others_keep}
 use Rattle.judge.proofs.Visits.{order_fit, visit_down}
 use Rattle.judge.proofs.nested.go_on.Goals as goal
 
-pub fresh-hop-requires : goal.fresh-hop-requires
-fresh-hop-requires g c =
+pub fresh_hop-requires : goal.fresh_hop-requires
+fresh_hop-requires g c =
     let m = g.B.Hierarchy.meaning c.args.h.now in
     let L = g.B.Hierarchy.lawful c.args.h.now in
     let T = look c.args.guide.now c.args.places in

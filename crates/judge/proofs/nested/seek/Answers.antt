@@ -38,8 +38,8 @@ loop-w-init g c =
           (entry_inside m L c.args.structure _ _ c.requires.inside c.entry-top.ensures c.requires.ready.places) c.clear.ensures.blank c.clear-2.ensures.others c.clear-2.ensures.blank c.child.ensures c.put.ensures,
     )
 
-pub go-on-requires : goal.go-on-requires
-go-on-requires g c =
+pub go_on-requires : goal.go_on-requires
+go_on-requires g c =
     let m = g.B.Hierarchy.meaning c.args.h.now in
     let T = look c.args.guide.now c.args.places in
     let T₁ = look c.clear.new.guide c.args.places in
@@ -62,7 +62,7 @@ returns-in-Found g c =
     let T₂ = look c.clear-2.new.guide c.args.places in
     let T₃ = look c.put.new.guide c.args.places in
     let T₄ = look c.loop-w.guide c.args.places in
-    let T₅ = look c.go-on.new.guide c.args.places in
+    let T₅ = look c.go_on.new.guide c.args.places in
     let A = c.in-Found.ensures in
     record {
       kept = kept_trans c.args.structures T T₄ T₅ (started c.args.structures T T₁ T₂ T₃ T₄ c.clear.ensures.others c.clear-2.ensures.others c.put.ensures.others c.loop-w.invariant.0) A.kept;
@@ -76,7 +76,7 @@ returns-in-End g c =
     let T₂ = look c.clear-2.new.guide c.args.places in
     let T₃ = look c.put.new.guide c.args.places in
     let T₄ = look c.loop-w.guide c.args.places in
-    let T₅ = look c.go-on.new.guide c.args.places in
+    let T₅ = look c.go_on.new.guide c.args.places in
     let A = c.in-End.ensures in
     record {
       kept = kept_trans c.args.structures T T₄ T₅ (started c.args.structures T T₁ T₂ T₃ T₄ c.clear.ensures.others c.clear-2.ensures.others c.put.ensures.others c.loop-w.invariant.0) A.kept;

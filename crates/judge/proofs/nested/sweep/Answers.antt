@@ -30,8 +30,8 @@ returns-then-not-get g c =
       answer = sweep_skips m c.args.structures c.args.places c.args.structure c.args.v T c.requires.nested (c.requires.behind c.args.structure (omega arith) c.requires.inside).marked (sym (ap (λ x. x.reached) c.get.ensures) ∙ not-true _ c.if-not-get.true);
     }
 
-pub seed-from-requires : goal.seed-from-requires
-seed-from-requires g c =
+pub seed_from-requires : goal.seed_from-requires
+seed_from-requires g c =
     let m = g.B.Hierarchy.meaning c.args.h.now in
     let L = g.B.Hierarchy.lawful c.args.h.now in
     record {
@@ -46,12 +46,12 @@ spread-requires g c =
     let L = g.B.Hierarchy.lawful c.args.h.now in
     let F = ring_fit m L c.args.structures c.args.places c.args.structure c.requires.ready.fits c.requires.ready.places c.requires.structures in
     let T = look c.args.guide.now c.args.places in
-    let T₁ = look c.seed-from.new.guide c.args.places in
-    let B = behind_from m T₁ (c.args.structure + 1) (behind_last m T T₁ Plain c.args.structures 0 c.requires.structures c.seed-from.ensures.sown.others c.requires.behind) in
+    let T₁ = look c.seed_from.new.guide c.args.places in
+    let B = behind_from m T₁ (c.args.structure + 1) (behind_last m T T₁ Plain c.args.structures 0 c.requires.structures c.seed_from.ensures.sown.others c.requires.behind) in
     record {
-      stands = omega (arith, c.requires.ready.stands, c.seed-from.auto.guide);
+      stands = omega (arith, c.requires.ready.stands, c.seed_from.auto.guide);
       fit = F;
-      orderly = sweep_orderly m L c.args.structures c.args.places c.args.structure c.args.v F T T₁ (behind_plain m (c.args.structure + 1) T₁ B) c.requires.nested.order c.requires.nested.swept c.seed-from.ensures;
+      orderly = sweep_orderly m L c.args.structures c.args.places c.args.structure c.args.v F T T₁ (behind_plain m (c.args.structure + 1) T₁ B) c.requires.nested.order c.requires.nested.swept c.seed_from.ensures;
     }
 
 pub returns : goal.returns
@@ -60,12 +60,12 @@ returns g c =
     let L = g.B.Hierarchy.lawful c.args.h.now in
     let F = ring_fit m L c.args.structures c.args.places c.args.structure c.requires.ready.fits c.requires.ready.places c.requires.structures in
     let T = look c.args.guide.now c.args.places in
-    let T₁ = look c.seed-from.new.guide c.args.places in
+    let T₁ = look c.seed_from.new.guide c.args.places in
     let T₂ = look c.spread.new.guide c.args.places in
-    let B = behind_from m T₁ (c.args.structure + 1) (behind_last m T T₁ Plain c.args.structures 0 c.requires.structures c.seed-from.ensures.sown.others c.requires.behind) in
-    let f : Others T T₂ Plain c.args.structures = others_trans c.seed-from.ensures.sown.others c.spread.ensures.spreads.others in
+    let B = behind_from m T₁ (c.args.structure + 1) (behind_last m T T₁ Plain c.args.structures 0 c.requires.structures c.seed_from.ensures.sown.others c.requires.behind) in
+    let f : Others T T₂ Plain c.args.structures = others_trans c.seed_from.ensures.sown.others c.spread.ensures.spreads.others in
     record {
       others = f;
       answer = sweep_tells m L c.args.structures c.args.places c.args.structure c.args.v F T T₁ T₂ c.requires.nested c.requires.spent (behind_plain m (c.args.structure + 1) T₁ B)
-          c.seed-from.ensures c.spread.ensures.spreads c.spread.ensures.closed c.spread.ensures.orderly c.spread.ensures.done f _ (ap (λ x. x.reached) c.get-2.ensures);
+          c.seed_from.ensures c.spread.ensures.spreads c.spread.ensures.closed c.spread.ensures.orderly c.spread.ensures.done f _ (ap (λ x. x.reached) c.get-2.ensures);
     }

@@ -8,7 +8,7 @@ use Rattle.judge.specs.Known.{known}
 use Rattle.judge.specs.Ring.{Back}
 use Rattle.judge.proofs.Looks.{stands_less}
 use Rattle.judge.proofs.Rings.{behind_keep, kept_trans, no_round}
-use Rattle.judge.proofs.ring.ring_any.Goals.{then-get+in-default, else-get}
+use Rattle.judge.proofs.ring.ring_any.Goals.{then-get+in_default, else-get}
 use Rattle.judge.proofs.ring.ring_any.Goals as goal
 
 pub get-requires : goal.get-requires
@@ -20,8 +20,8 @@ get-requires g c =
       inside = omega (arith, (L.sized c.requires.ready.fits).2, c.requires.ready.places);
     }
 
-pub ring-in-requires : goal.ring-in-requires
-ring-in-requires g c =
+pub ring_in-requires : goal.ring_in-requires
+ring_in-requires g c =
     let m = g.B.Hierarchy.meaning c.args.h.now in
     let T = look c.args.guide.now c.args.places in
     let T₁ = look c.loop-i.guide c.args.places in
@@ -38,10 +38,10 @@ returns-in-Some g c =
     let i = c.loop-i.i in
     let T = look c.args.guide.now c.args.places in
     let T₁ = look c.loop-i.guide c.args.places in
-    let T₂ = look c.ring-in.new.guide c.args.places in
+    let T₂ = look c.ring_in.new.guide c.args.places in
     record {
-      kept = kept_trans c.args.structures T T₁ T₂ c.loop-i.invariant.0 c.ring-in.ensures.kept;
-      answer = (omega (arith, c.loop-i-test.true, c.requires.structures), ap (λ x. x.reached) (c.ring-in.ensures.kept Up i 0 (λ z. omega arith)) ∙ sym (ap (λ x. x.reached) c.get.ensures) ∙ c.if-get.true, c.in-Some.ensures.answer);
+      kept = kept_trans c.args.structures T T₁ T₂ c.loop-i.invariant.0 c.ring_in.ensures.kept;
+      answer = (omega (arith, c.loop-i-test.true, c.requires.structures), ap (λ x. x.reached) (c.ring_in.ensures.kept Up i 0 (λ z. omega arith)) ∙ sym (ap (λ x. x.reached) c.get.ensures) ∙ c.if-get.true, c.in-Some.ensures.answer);
     }
 
 pub loop-i-preserved : goal.loop-i-preserved
@@ -51,7 +51,7 @@ loop-i-preserved g c =
     let T = look c.args.guide.now c.args.places in
     let T₁ = look c.loop-i.guide c.args.places in
     elim c.if-get.branch [
-      | then-get+in-default w ↦ simp w.guide-is (kept_trans c.args.structures T T₁ (look w.ring-in.new.guide c.args.places) c.loop-i.invariant.0 w.ring-in.ensures.kept, below_more (λ k. known T k ≡ true → (u : ℕ) → Hops m k (m.entry k) u → Back m k u → ⊥) i c.loop-i.invariant.1 (λ p. w.in-default.ensures.answer))
+      | then-get+in_default w ↦ simp w.guide-is (kept_trans c.args.structures T T₁ (look w.ring_in.new.guide c.args.places) c.loop-i.invariant.0 w.ring_in.ensures.kept, below_more (λ k. known T k ≡ true → (u : ℕ) → Hops m k (m.entry k) u → Back m k u → ⊥) i c.loop-i.invariant.1 (λ p. w.in_default.ensures.answer))
       | else-get w ↦ simp w.guide-is (c.loop-i.invariant.0, below_more (λ k. known T k ≡ true → (u : ℕ) → Hops m k (m.entry k) u → Back m k u → ⊥) i c.loop-i.invariant.1 (λ p. absurd (both_ways _ w.if-get.false (ap (λ y. y.reached) (c.get.ensures ∙ c.loop-i.invariant.0 Up i 0 (λ z. omega arith)) ∙ p))))
     ]
 

@@ -18,8 +18,8 @@ clear-requires g c =
     let m = g.B.Hierarchy.meaning c.args.h.now in
     record { stands = stands_less _ _ c.args.structure m.structures (omega (arith, c.requires.inside)) c.requires.ready.stands }
 
-pub seed-all-requires : goal.seed-all-requires
-seed-all-requires g c =
+pub seed_all-requires : goal.seed_all-requires
+seed_all-requires g c =
     let m = g.B.Hierarchy.meaning c.args.h.now in
     let i = c.args.structure in
     let T = look c.args.guide.now c.args.places in
@@ -39,11 +39,11 @@ spread-requires g c =
     let s = marked_site c.args.places i in
     let T = look c.args.guide.now c.args.places in
     let T₁ = look c.clear.new.guide c.args.places in
-    let T₂ = look c.seed-all.new.guide c.args.places in
-    let Z = sown_seeded s (from_row m i (T₁ Plain i)) T₁ T₂ c.clear.ensures.blank c.seed-all.ensures.sown in
+    let T₂ = look c.seed_all.new.guide c.args.places in
+    let Z = sown_seeded s (from_row m i (T₁ Plain i)) T₁ T₂ c.clear.ensures.blank c.seed_all.ensures.sown in
     let F = marked_fit m L c.args.places i c.requires.ready.fits c.requires.ready.places c.requires.inside in
     record {
-      stands = omega (arith, c.requires.ready.stands, c.clear.auto.guide, c.seed-all.auto.guide);
+      stands = omega (arith, c.requires.ready.stands, c.clear.auto.guide, c.seed_all.auto.guide);
       fit = F;
       orderly = seeded_orderly m s (from_row m i (T₁ Plain i)) T₂ Z (seed_depth m L c.args.places i (T₁ Plain i) (plain_stays m T T₁ i i c.clear.ensures.others c.requires.plain) T₂ F Z);
     }
@@ -56,9 +56,9 @@ returns g c =
     let s = marked_site c.args.places i in
     let T = look c.args.guide.now c.args.places in
     let T₁ = look c.clear.new.guide c.args.places in
-    let T₂ = look c.seed-all.new.guide c.args.places in
+    let T₂ = look c.seed_all.new.guide c.args.places in
     let T₃ = look c.spread.new.guide c.args.places in
-    let X = c.seed-all.ensures in
+    let X = c.seed_all.ensures in
     let Y = c.spread.ensures.spreads in
     let f : Others T T₂ Marked i = others_trans c.clear.ensures.others X.sown.others in
     let f' : Others T₁ T₃ Marked i = others_trans X.sown.others Y.others in

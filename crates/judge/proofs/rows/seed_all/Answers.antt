@@ -7,15 +7,15 @@ use Rattle.judge.proofs.Stays.{behind_kept}
 use Rattle.judge.proofs.Sows.{below_no, below_yes}
 use Rattle.judge.proofs.Reaps.{marked_fit}
 use Rattle.judge.proofs.rows.seed_all.Goals as goal
-use Rattle.judge.proofs.rows.seed_all.Goals.{then_Found, else-found}
+use Rattle.judge.proofs.rows.seed_all.Goals.{then-found, else-found}
 
 pub get-found-requires : goal.get-found-requires
 get-found-requires g c =
     let m = g.B.Hierarchy.meaning c.args.h.now in
     record { stands = stands_less _ _ c.args.structure m.structures (omega (arith, c.requires.inside)) (omega (arith, c.requires.ready.stands)); inside = omega arith }
 
-pub seed-from-requires : goal.seed-from-requires
-seed-from-requires g c =
+pub seed_from-requires : goal.seed_from-requires
+seed_from-requires g c =
     let m = g.B.Hierarchy.meaning c.args.h.now in
     let L = g.B.Hierarchy.lawful c.args.h.now in
     record {
@@ -28,7 +28,7 @@ pub loop-v-preserved : goal.loop-v-preserved
 loop-v-preserved g c =
     let m = g.B.Hierarchy.meaning c.args.h.now in
     elim c.if-found.branch [
-      | then_Found w ↦ simp w.guide-is (below_yes m c.args.places c.args.structure c.loop-v.v _ c.requires.plain (sym (ap (λ x. x.reached) c.get-found.ensures) ∙ w.if-found.true) (ap (λ x. x.depth + 1) c.get-found.ensures) c.loop-v.invariant w.seed-from.ensures)
+      | then-found w ↦ simp w.guide-is (below_yes m c.args.places c.args.structure c.loop-v.v _ c.requires.plain (sym (ap (λ x. x.reached) c.get-found.ensures) ∙ w.if-found.true) (ap (λ x. x.depth + 1) c.get-found.ensures) c.loop-v.invariant w.seed_from.ensures)
       | else-found w ↦ simp w.guide-is (below_no m c.args.places c.args.structure c.loop-v.v c.requires.plain (sym (ap (λ x. x.reached) c.get-found.ensures) ∙ w.if-found.false) c.loop-v.invariant)
     ]
 

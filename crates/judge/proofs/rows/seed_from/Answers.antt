@@ -5,8 +5,8 @@ use Rattle.judge.proofs.Told.{told_absent, told_node, told_box}
 use Rattle.judge.proofs.Sows.{absent_no}
 use Rattle.judge.proofs.rows.seed_from.Goals as goal
 
-pub seed-node-requires : goal.seed-node-requires
-seed-node-requires g c =
+pub seed_node-requires : goal.seed_node-requires
+seed_node-requires g c =
     let m = g.B.Hierarchy.meaning c.args.h.now in
     record {
       stands = stands_less _ _ c.args.site.row m.structures c.requires.fit.row c.requires.stands;
@@ -14,8 +14,8 @@ seed-node-requires g c =
       named = told_node _ c.in-Node.ensures;
     }
 
-pub seed-leaves-requires : goal.seed-leaves-requires
-seed-leaves-requires g c =
+pub seed_leaves-requires : goal.seed_leaves-requires
+seed_leaves-requires g c =
     record { stands = c.requires.stands; fit = c.requires.fit; named = told_box _ _ c.in-Box.ensures; behind = c.requires.behind }
 
 pub returns-in-Absent : goal.returns-in-Absent

@@ -4,7 +4,7 @@ use Rattle.std.proofs.lemmas.Bool.{not-true, not-false}
 use Rattle.guide.specs.Layout.{look}
 use Rattle.judge.proofs.Grow.{adding_none, adding_old, adding_new, adding_no, adding_all}
 use Rattle.judge.proofs.spread.edges.Goals as goal
-use Rattle.judge.proofs.spread.edges.Goals.{then-not-get+then-has-edge, else-not-get, else-not-get-via-then-not-get+else-has-edge, else-not-get-via-else-not-get}
+use Rattle.judge.proofs.spread.edges.Goals.{then-not-get+then-has_edge, else-not-get, else-not-get-via-then-not-get+else-has_edge, else-not-get-via-else-not-get}
 
 pub loop-w-init : goal.loop-w-init
 loop-w-init g c =
@@ -18,11 +18,11 @@ loop-w-preserved g c =
     let s = c.args.site in
     let f = m.edge s.structure c.args.v in
     elim c.if-not-get.branch [
-      | then-not-get+then-has-edge w ↦ simp w.guide-is (adding_new s c.args.cell f c.loop-w.w (sym w.has-edge.ensures ∙ w.if-has-edge.true) (sym (ap (λ x. x.reached) c.get.ensures) ∙ not-true _ w.if-not-get.true) c.loop-w.invariant w.put.ensures)
+      | then-not-get+then-has_edge w ↦ simp w.guide-is (adding_new s c.args.cell f c.loop-w.w (sym w.has_edge.ensures ∙ w.if-has_edge.true) (sym (ap (λ x. x.reached) c.get.ensures) ∙ not-true _ w.if-not-get.true) c.loop-w.invariant w.put.ensures)
       | else-not-get w ↦
           simp w.guide-is
           (elim w.else-not-get.branch [
-            | else-not-get-via-then-not-get+else-has-edge w' ↦ adding_no s c.args.cell f c.loop-w.w (sym w'.has-edge.ensures ∙ w'.if-has-edge.false) c.loop-w.invariant
+            | else-not-get-via-then-not-get+else-has_edge w' ↦ adding_no s c.args.cell f c.loop-w.w (sym w'.has_edge.ensures ∙ w'.if-has_edge.false) c.loop-w.invariant
             | else-not-get-via-else-not-get w' ↦ adding_old s c.args.cell f c.loop-w.w (sym (ap (λ x. x.reached) c.get.ensures) ∙ not-false _ w'.if-not-get.false) c.loop-w.invariant
           ])
     ]

@@ -11,8 +11,8 @@ passed-requires g c =
     let L = g.B.Hierarchy.lawful c.args.h.now in
     record { stands = stands_less _ _ c.args.inner m.structures (omega (arith, (L.inner _ _ _ c.requires.named).1)) (omega (arith, c.requires.stands)); inside = omega arith }
 
-pub leaves-by-requires : goal.leaves-by-requires
-leaves-by-requires g c =
+pub leaves_by-requires : goal.leaves_by-requires
+leaves_by-requires g c =
     let m = g.B.Hierarchy.meaning c.args.h.now in
     let s = c.args.site in
     record {
@@ -28,7 +28,7 @@ loop-by-preserved g c =
     let v = c.args.v in
     let n = c.loop-by.by in
     elim c.if-passed.branch [
-      | then-passed w ↦ simp w.guide-is (left_yes m s v n c.args.next L c.requires.fit.apart c.requires.reached c.requires.next c.requires.named c.passed.ensures w.if-passed.true c.loop-by.invariant w.child.ensures w.leaves-by.ensures)
+      | then-passed w ↦ simp w.guide-is (left_yes m s v n c.args.next L c.requires.fit.apart c.requires.reached c.requires.next c.requires.named c.passed.ensures w.if-passed.true c.loop-by.invariant w.child.ensures w.leaves_by.ensures)
       | else-passed w ↦ simp w.guide-is (left_no m s v n _ L c.requires.fit.apart c.requires.named c.passed.ensures w.if-passed.false c.loop-by.invariant)
     ]
 

@@ -4,7 +4,7 @@ use Rattle.std.proofs.lemmas.Bool.{not-true, not-false}
 use Rattle.guide.specs.Layout.{look}
 use Rattle.judge.proofs.Grow.{adding_none, adding_old, adding_new, adding_no, adding_all}
 use Rattle.judge.proofs.spread.leaves_by.Goals as goal
-use Rattle.judge.proofs.spread.leaves_by.Goals.{then-not-get+then-has-leave, else-not-get, else-not-get-via-then-not-get+else-has-leave, else-not-get-via-else-not-get}
+use Rattle.judge.proofs.spread.leaves_by.Goals.{then-not-get+then-has_leave, else-not-get, else-not-get-via-then-not-get+else-has_leave, else-not-get-via-else-not-get}
 
 pub loop-w-init : goal.loop-w-init
 loop-w-init g c =
@@ -18,11 +18,11 @@ loop-w-preserved g c =
     let s = c.args.site in
     let f = m.leave s.structure c.args.v c.args.by in
     elim c.if-not-get.branch [
-      | then-not-get+then-has-leave w ↦ simp w.guide-is (adding_new s c.args.cell f c.loop-w.w (sym w.has-leave.ensures ∙ w.if-has-leave.true) (sym (ap (λ x. x.reached) c.get.ensures) ∙ not-true _ w.if-not-get.true) c.loop-w.invariant w.put.ensures)
+      | then-not-get+then-has_leave w ↦ simp w.guide-is (adding_new s c.args.cell f c.loop-w.w (sym w.has_leave.ensures ∙ w.if-has_leave.true) (sym (ap (λ x. x.reached) c.get.ensures) ∙ not-true _ w.if-not-get.true) c.loop-w.invariant w.put.ensures)
       | else-not-get w ↦
           simp w.guide-is
           (elim w.else-not-get.branch [
-            | else-not-get-via-then-not-get+else-has-leave w' ↦ adding_no s c.args.cell f c.loop-w.w (sym w'.has-leave.ensures ∙ w'.if-has-leave.false) c.loop-w.invariant
+            | else-not-get-via-then-not-get+else-has_leave w' ↦ adding_no s c.args.cell f c.loop-w.w (sym w'.has_leave.ensures ∙ w'.if-has_leave.false) c.loop-w.invariant
             | else-not-get-via-else-not-get w' ↦ adding_old s c.args.cell f c.loop-w.w (sym (ap (λ x. x.reached) c.get.ensures) ∙ not-false _ w'.if-not-get.false) c.loop-w.invariant
           ])
     ]

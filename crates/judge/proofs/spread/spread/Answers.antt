@@ -34,4 +34,4 @@ loop-v-preserved g c =
 pub returns : goal.returns
 returns g c =
     let m = g.B.Hierarchy.meaning c.args.h.now in
-    record { spreads = c.loop-v.invariant.0; closed = all_closed m c.args.site _ c.loop-v.invariant.1 c.in-default.ensures; orderly = c.loop-v.invariant.1; done = c.in-default.ensures }
+    record { spreads = c.loop-v.invariant.0; closed = all_closed m c.args.site _ c.loop-v.invariant.1 c.in_default.ensures; orderly = c.loop-v.invariant.1; done = c.in_default.ensures }

@@ -4,4 +4,4 @@ use Rattle.judge.proofs.table.put.Goals as goal
 
 pub returns : goal.returns
 returns c =
-    simp c.with_lane_lem.ensures (puts_set _ _ _ _ _ _ _ c.requires.inside c.position-at.ensures.is c.position-at.ensures.within)
+    simp c.with_lane.ensures (puts_set _ _ _ _ _ _ _ c.requires.inside c.position-at.ensures.is c.position-at.ensures.within)

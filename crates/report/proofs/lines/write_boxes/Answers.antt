@@ -1,4 +1,4 @@
-use Rattle.std.proofs.Common.{◌≡◌, ◌<◌, [], ◌∷◌, ◌++◌, length, take, decimal, subst, arith}
+use Rattle.std.proofs.Common.{◌<◌, [], ◌∷◌, ◌++◌, length, take, decimal, subst, arith}
 use Rattle.std.proofs.lemmas.List.{take_all}
 use Rattle.walk.specs.Shown.{outer_frames}
 use Rattle.report.specs.Text.{dotted}
@@ -10,15 +10,15 @@ use Rattle.report.proofs.lines.write_boxes.Goals as goal
 pub loop-i-init : goal.loop-i-init
 loop-i-init c = wrote_nothing c.args.output.now c.args.at
 
-pub returns-in-default : goal.returns-in-default
-returns-in-default c =
+pub returns-in_default : goal.returns-in_default
+returns-in_default c =
     let w = c.args.walk.now in
     let fs = c.args.frames.now in
     let h : c.loop-i.i < length (outer_frames w fs) = omega (arith, boxes_count w fs c.boxes-i-end.result c.boxes-i-end.ensures) in
-    absurd (no_box w fs c.loop-i.i c.in-default.ensures h)
+    absurd (no_box w fs c.loop-i.i c.in_default.ensures h)
 
-pub write-number-dot-requires : goal.write-number-dot-requires
-write-number-dot-requires c =
+pub write_number-dot-requires : goal.write_number-dot-requires
+write_number-dot-requires c =
     let w = c.args.walk.now in
     let fs = c.args.frames.now in
     let i = c.loop-i.i in
@@ -27,15 +27,15 @@ write-number-dot-requires c =
     let room = room_more (outer_frames w fs) i p h (box_place w fs i p c.in-Some.ensures h) c.requires in
     room_first (decimal p) (46 ∷ []) (room_rest (dotted (take i (outer_frames w fs))) (decimal p ++ 46 ∷ []) room c.loop-i.invariant)
 
-pub write-byte-end-requires : goal.write-byte-end-requires
-write-byte-end-requires c =
+pub write_byte-end-requires : goal.write_byte-end-requires
+write_byte-end-requires c =
     let w = c.args.walk.now in
     let fs = c.args.frames.now in
     let i = c.loop-i.i in
     let p = c.in-Some.place in
     let h : i < length (outer_frames w fs) = omega (arith, boxes_count w fs c.boxes-i-end.result c.boxes-i-end.ensures) in
     let room = room_more (outer_frames w fs) i p h (box_place w fs i p c.in-Some.ensures h) c.requires in
-    room_rest (decimal p) (46 ∷ []) (room_rest (dotted (take i (outer_frames w fs))) (decimal p ++ 46 ∷ []) room c.loop-i.invariant) c.write-number-dot.ensures
+    room_rest (decimal p) (46 ∷ []) (room_rest (dotted (take i (outer_frames w fs))) (decimal p ++ 46 ∷ []) room c.loop-i.invariant) c.write_number-dot.ensures
 
 pub loop-i-preserved : goal.loop-i-preserved
 loop-i-preserved c =
@@ -47,8 +47,8 @@ loop-i-preserved c =
     let e = box_place w fs i p c.in-Some.ensures h in
     let room = room_more (outer_frames w fs) i p h e c.requires in
     let rest = room_rest (dotted (take i (outer_frames w fs))) (decimal p ++ 46 ∷ []) room c.loop-i.invariant in
-    subst (λ t. Wrote c.args.output.now c.args.at t c.write-byte-end.new.output c.write-byte-end.result) (more_dotted (outer_frames w fs) i p h e)
-    (wrote_then (dotted (take i (outer_frames w fs))) (decimal p ++ 46 ∷ []) room c.loop-i.invariant (wrote_then (decimal p) (46 ∷ []) rest c.write-number-dot.ensures c.write-byte-end.ensures))
+    subst (λ t. Wrote c.args.output.now c.args.at t c.write_byte-end.new.output c.write_byte-end.result) (more_dotted (outer_frames w fs) i p h e)
+    (wrote_then (dotted (take i (outer_frames w fs))) (decimal p ++ 46 ∷ []) room c.loop-i.invariant (wrote_then (decimal p) (46 ∷ []) rest c.write_number-dot.ensures c.write_byte-end.ensures))
 
 pub returns : goal.returns
 returns c =

@@ -7,4 +7,4 @@ pub returns-else-level-eq0 : goal.returns-else-level-eq0
 returns-else-level-eq0 g c =
     let p : 0 < c.args.level.left = omega arith in
     c.pass.ensures ∙ inner_at (g.B.Hierarchy.meaning c.args.h.now) (guide_by c.args.guide.now c.args.plan) c.args.structure c.args.level c.args.into
-    c.goal_of_lem.result c.climb-spot.result c.entry-of-next.result c.args.level.left p c.goal_of_lem.ensures c.climb-spot.ensures c.entry-of-next.ensures
+    c.goal_of.result c.climb-spot.result c.entry_of-next.result c.args.level.left p c.goal_of.ensures c.climb-spot.ensures c.entry_of-next.ensures

@@ -4,4 +4,4 @@ use Rattle.walk.proofs.read.aim_of.Goals as goal
 
 pub returns : goal.returns
 unfolding aim_of_lem
-returns c = ap (λ x. x.aim) c.record-at.ensures
+returns c = ap (λ x. x.aim) c.record_at.ensures

@@ -6,7 +6,7 @@ pub returns-then-place-places : goal.returns-then-place-places
 unfolding look
 returns-then-place-places c =
     let h = c.if-place-places.true in
-    rw (lt-ltb _ _ h) (c.entry-in.ensures ∙ ap (lane_of c.args.lane) c.record-at.ensures)
+    rw (lt-ltb _ _ h) (c.entry_in.ensures ∙ ap (lane_of c.args.lane) c.record_at.ensures)
 
 pub returns-else-place-places : goal.returns-else-place-places
 unfolding look

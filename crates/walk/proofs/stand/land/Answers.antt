@@ -12,7 +12,7 @@ inner-last-requires g c =
     let e = told_box _ _ c.in-Box.ensures in
     let i = (g.B.Hierarchy.lawful c.args.h.now).inner c.args.structure c.args.level.place c.in-Box.j e in
     let p = c.requires.0.structures in
-    (c.requires.1.0, (omega arith, false-ltb _ _ c.if-is-far.ensures))
+    (c.requires.1.0, (omega arith, false-ltb _ _ c.if-is_far.ensures))
 
 pub returns-else-depth-frames : goal.returns-else-depth-frames
 returns-else-depth-frames g c =

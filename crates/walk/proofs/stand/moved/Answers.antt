@@ -16,7 +16,7 @@ returns-then-stand-eq0-2 g c =
     let L = g.B.Hierarchy.lawful c.args.h.now in (
       refl,
       λ n G w s. no_pass_outside m L c.requires.fits (guide_by c.args.guide.now c.args.plan) c.args.frames.now c.args.stand n
-          c.if-stand-eq0-2.true (sym c.if-is-pass.ensures) G w,
+          c.if-stand-eq0-2.true (sym c.if-is_pass.ensures) G w,
     )
 
 pub returns-else-stand-eq0-2 : goal.returns-else-stand-eq0-2

@@ -15,8 +15,8 @@ loop-k-preserved c =
     let k = c.loop-k.k in
     let next : largest (drop k sizes) ≡ max (size_of sizes k) (largest (drop (k + 1) sizes)) = at_drop_more largest sizes k 0 (omega (arith, c.loop-k-test.true, c.levels-k-end.ensures.levels)) in
     elim c.if-size-most.branch [
-      | then-size-most w ↦ omega (arith, next, w.most-is, w.if-size-most.true, c.level-size-size.ensures.size, c.loop-k.invariant)
-      | else-size-most w ↦ omega (arith, next, w.most-is, w.if-size-most.false, c.level-size-size.ensures.size, c.loop-k.invariant)
+      | then-size-most w ↦ omega (arith, next, w.most-is, w.if-size-most.true, c.level_size-size.ensures.size, c.loop-k.invariant)
+      | else-size-most w ↦ omega (arith, next, w.most-is, w.if-size-most.false, c.level_size-size.ensures.size, c.loop-k.invariant)
     ]
 
 pub returns : goal.returns

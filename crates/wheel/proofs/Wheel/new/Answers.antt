@@ -10,4 +10,4 @@ unfolding sizes_of
 returns c =
     let sizes = c.args.sizes.now in
     let ok : List ℕ → Result (List ℕ) Refusal = λ l. Ok l in
-    ap ok c.copied-sizes.ensures.sizes ∙ ap (λ t. cond t (ok sizes) (Err WheelSizes)) c.if-not-are-right.ensures
+    ap ok c.copied-sizes.ensures.sizes ∙ ap (λ t. cond t (ok sizes) (Err WheelSizes)) c.if-not-are_right.ensures

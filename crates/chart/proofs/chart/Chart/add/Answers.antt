@@ -13,9 +13,9 @@ pub write-requires : goal.write-requires
 write-requires c =
     let s = sheet c.args.self.now in
     let i = c.args.i in
-    let e : with_place_lem c.args.spot (at s i) ≡ structure_of c.with_place_lem.result
-    = ap (with_place_lem c.args.spot) (sym c.row-row.ensures.row) ∙ sym c.with_place_lem.ensures.is in
-    let n : length (with_place_lem c.args.spot (at s i)).places ≡ length (structure_of c.with_place_lem.result).places = ap (λ (q : Structure). length q.places) e in
+    let e : with_place_lem c.args.spot (at s i) ≡ structure_of c.with_place.result
+    = ap (with_place_lem c.args.spot) (sym c.row-row.ensures.row) ∙ sym c.with_place.ensures.is in
+    let n : length (with_place_lem c.args.spot (at s i)).places ≡ length (structure_of c.with_place.result).places = ap (λ (q : Structure). length q.places) e in
     record {
       within = c.requires.within;
       few = omega (arith, c.requires.room, ap (λ (q : Structure). length q.places) c.row-row.ensures.row);

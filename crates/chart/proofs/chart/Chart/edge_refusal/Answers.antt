@@ -8,6 +8,6 @@ use Rattle.chart.proofs.chart.Chart.edge_refusal.Goals as goal
 
 pub returns : goal.returns
 returns c =
-    c.already.ensures ∙ ap (λ t. first (already c.args.there t ∷ [])) c.is-edge.ensures
+    c.already.ensures ∙ ap (λ t. first (already c.args.there t ∷ [])) c.is_edge.ensures
     ∙ edge_last (sheet c.args.self.now) (structure_of c.row-row.result) c.args.i c.args.p c.args.w c.args.there
     c.row-row.ensures.row (omega arith) (omega arith) (omega arith) (search rules)

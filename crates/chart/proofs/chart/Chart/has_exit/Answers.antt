@@ -17,7 +17,7 @@ returns-then-i-structures c =
 
 pub returns : goal.returns
 returns c =
-    let e = c.is-exit.ensures ∙ ap (λ (q : Structure). exit? (slice_get q.places c.args.e)) c.row-row.ensures.row in
+    let e = c.is_exit.ensures ∙ ap (λ (q : Structure). exit? (slice_get q.places c.args.e)) c.row-row.ensures.row in
     record {
       is = e;
       few = λ h. omega (

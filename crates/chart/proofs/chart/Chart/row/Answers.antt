@@ -3,8 +3,8 @@ use Rattle.chart.specs.declared.row.Row.{Row}
 use Rattle.chart.proofs.Tables.{at_sheet}
 use Rattle.chart.proofs.chart.Chart.row.Goals as goal
 
-pub offset-bounds-self-i : goal.offset-bounds-self-i
-offset-bounds-self-i c = let h : c.args.i < 32 = omega (arith, c.requires, c.args.self.now.structures) in search rules
+pub offset_bounds-self-i : goal.offset_bounds-self-i
+offset_bounds-self-i c = let h : c.args.i < 32 = omega (arith, c.requires, c.args.self.now.structures) in search rules
 
 pub bounds-self-i : goal.bounds-self-i
 bounds-self-i c = omega (arith, c.requires, c.args.self.now.structures)

@@ -12,11 +12,11 @@ use Rattle.chart.proofs.chart.Chart.set_edge.Goals as goal
 
 pub row-row-requires : goal.row-row-requires
 row-row-requires c =
-    (edge_may (sheet c.args.self.now) c.args.i c.args.p c.args.w c.args.there (sym c.in-default.ensures)).within
+    (edge_may (sheet c.args.self.now) c.args.i c.args.p c.args.w c.args.there (sym c.in_default.ensures)).within
 
-pub with-edge-requires : goal.with-edge-requires
-with-edge-requires c =
-    let m = edge_may (sheet c.args.self.now) c.args.i c.args.p c.args.w c.args.there (sym c.in-default.ensures) in
+pub with_edge-requires : goal.with_edge-requires
+with_edge-requires c =
+    let m = edge_may (sheet c.args.self.now) c.args.i c.args.p c.args.w c.args.there (sym c.in_default.ensures) in
     let f : length (at (sheet c.args.self.now) c.args.i).places ≤ 16 = few_places c.row-row.result _ c.row-row.ensures.few c.row-row.ensures.row in
     (omega (arith, m.from, f), omega (arith, m.to, f))
 
@@ -24,12 +24,12 @@ pub write-requires : goal.write-requires
 write-requires c =
     let s = sheet c.args.self.now in
     let i = c.args.i in
-    let m = edge_may s i c.args.p c.args.w c.args.there (sym c.in-default.ensures) in
-    let e : with_edge_lem c.args.p c.args.w c.args.there (at s i) ≡ structure_of c.with_edge_lem.result
-    = ap (with_edge_lem c.args.p c.args.w c.args.there) (sym c.row-row.ensures.row) ∙ sym c.with_edge_lem.ensures.is in
+    let m = edge_may s i c.args.p c.args.w c.args.there (sym c.in_default.ensures) in
+    let e : with_edge_lem c.args.p c.args.w c.args.there (at s i) ≡ structure_of c.with_edge.result
+    = ap (with_edge_lem c.args.p c.args.w c.args.there) (sym c.row-row.ensures.row) ∙ sym c.with_edge.ensures.is in
     record {
       within = m.within;
-      few = omega (arith, c.with_edge_lem.ensures.used, c.row-row.ensures.few);
+      few = omega (arith, c.with_edge.ensures.used, c.row-row.ensures.few);
       more = omega (arith, ap (λ (q : Structure). length q.places) e);
       sound = ∥∥₁_map c.args.self.now.sound (λ l. subst (λ (r : Structure). Sound (set s i r)) e
           (keeps s i _ m.within (edge_grows s i c.args.p c.args.w c.args.there l (λ _. m.stands)) l));

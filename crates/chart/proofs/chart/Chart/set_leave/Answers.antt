@@ -11,12 +11,12 @@ use Rattle.chart.proofs.chart.Chart.set_leave.Goals as goal
 
 pub row-row-requires : goal.row-row-requires
 row-row-requires c =
-    (leave_may (sheet c.args.self.now) c.args.i c.args.b c.args.e c.args.w c.args.there (sym c.in-default.ensures)).within
+    (leave_may (sheet c.args.self.now) c.args.i c.args.b c.args.e c.args.w c.args.there (sym c.in_default.ensures)).within
 
-pub with-leave-requires : goal.with-leave-requires
-with-leave-requires c =
+pub with_leave-requires : goal.with_leave-requires
+with_leave-requires c =
     let s = sheet c.args.self.now in
-    let m = leave_may s c.args.i c.args.b c.args.e c.args.w c.args.there (sym c.in-default.ensures) in
+    let m = leave_may s c.args.i c.args.b c.args.e c.args.w c.args.there (sym c.in_default.ensures) in
     let f = c.args.self.now.places in (
       omega (arith, m.from, f c.args.i),
       (omega (arith, m.by, f (inner (spot s c.args.i c.args.b))), omega (arith, m.to, f c.args.i)),
@@ -26,12 +26,12 @@ pub write-requires : goal.write-requires
 write-requires c =
     let s = sheet c.args.self.now in
     let i = c.args.i in
-    let m = leave_may s i c.args.b c.args.e c.args.w c.args.there (sym c.in-default.ensures) in
+    let m = leave_may s i c.args.b c.args.e c.args.w c.args.there (sym c.in_default.ensures) in
     let f = with_leave c.args.b c.args.e c.args.w c.args.there in
-    let e : f (at s i) ≡ structure_of c.with-leave.result = ap f (sym c.row-row.ensures.row) ∙ sym c.with-leave.ensures.is in
+    let e : f (at s i) ≡ structure_of c.with_leave.result = ap f (sym c.row-row.ensures.row) ∙ sym c.with_leave.ensures.is in
     record {
       within = m.within;
-      few = omega (arith, c.with-leave.ensures.used, c.row-row.ensures.few);
+      few = omega (arith, c.with_leave.ensures.used, c.row-row.ensures.few);
       more = omega (arith, ap (λ (q : Structure). length q.places) e);
       sound = ∥∥₁_map c.args.self.now.sound (λ l. subst (λ (r : Structure). Sound (set s i r)) e
           (keeps s i _ m.within (leave_grows s i c.args.b c.args.e c.args.w c.args.there l m.stands) l));

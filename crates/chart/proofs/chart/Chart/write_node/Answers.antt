@@ -12,8 +12,8 @@ use Rattle.sheet.proofs.Allows.{test_below}
 use Rattle.sheet.proofs.Keeps.{node_grows, keeps}
 use Rattle.chart.proofs.chart.Chart.write_node.Goals as goal
 
-pub with-spot-requires : goal.with-spot-requires
-with-spot-requires c =
+pub with_spot-requires : goal.with_spot-requires
+with_spot-requires c =
     let s = sheet c.args.self.now in (
       c.row-row.ensures.few,
       below_used c.row-row.result (at s c.args.i) c.args.p c.row-row.ensures.row
@@ -26,13 +26,13 @@ write-requires c =
     let i = c.args.i in
     let p = c.args.p in
     let v = Node c.args.look c.args.exit in
-    let e : with_spot_lem p v (at s i) ≡ structure_of c.with_spot_lem.result
-    = ap (with_spot_lem p v) (sym c.row-row.ensures.row) ∙ sym c.with_spot_lem.ensures.is in
-    let n : length (with_spot_lem p v (at s i)).places ≡ length (structure_of c.with_spot_lem.result).places = ap (λ (q : Structure). length q.places) e in
+    let e : with_spot_lem p v (at s i) ≡ structure_of c.with_spot.result
+    = ap (with_spot_lem p v) (sym c.row-row.ensures.row) ∙ sym c.with_spot.ensures.is in
+    let n : length (with_spot_lem p v (at s i)).places ≡ length (structure_of c.with_spot.result).places = ap (λ (q : Structure). length q.places) e in
     let h : p < length (at s i).places = test_below node? refl (at s i).places p c.requires.noded in
     record {
       within = c.requires.within;
-      few = omega (arith, c.with_spot_lem.ensures.used, c.row-row.ensures.few);
+      few = omega (arith, c.with_spot.ensures.used, c.row-row.ensures.few);
       more = omega (arith, n, length-set (at s i).places p v);
       sound = ∥∥₁_map c.args.self.now.sound (λ l. subst (λ (r : Structure). Sound (set s i r)) e
           (keeps s i _ c.requires.within (node_grows s i p c.args.look c.args.exit l h c.requires.noded c.requires.stays) l));

@@ -15,11 +15,11 @@ above g c =
     let m = g.B.Hierarchy.meaning x.below.now in
     entry_number m (automaton_of x.monitor) (g.B.Hierarchy.lawful x.below.now) (omega (arith, x.monitor.some)) _ _ c.in-Fits.ensures _ c.width-f.ensures c.args.i _ c.if-i-structures.false c.entry.ensures
 
-pub overflow-mul-result : goal.overflow-mul-result
-overflow-mul-result g c = omega (arith, above g c)
+pub overflow_mul-result : goal.overflow_mul-result
+overflow_mul-result g c = omega (arith, above g c)
 
-pub overflow-add-result : goal.overflow-add-result
-overflow-add-result g c = omega (arith, above g c)
+pub overflow_add-result : goal.overflow_add-result
+overflow_add-result g c = omega (arith, above g c)
 
 pub returns-then-i-structures : goal.returns-then-i-structures
 returns-then-i-structures g c =

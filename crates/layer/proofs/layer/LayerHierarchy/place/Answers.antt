@@ -11,8 +11,8 @@ above g c =
     let m = g.B.Hierarchy.meaning x.below.now in
     box_number m (automaton_of x.monitor) (g.B.Hierarchy.lawful x.below.now) (omega (arith, x.monitor.some)) _ _ c.in-Fits.ensures _ c.width-f.ensures _ _ c.in-Box.j c.args.p c.in-Box.ensures
 
-pub overflow-mul-result : goal.overflow-mul-result
-overflow-mul-result g c = omega (arith, above g c)
+pub overflow_mul-result : goal.overflow_mul-result
+overflow_mul-result g c = omega (arith, above g c)
 
-pub overflow-add-result : goal.overflow-add-result
-overflow-add-result g c = omega (arith, above g c)
+pub overflow_add-result : goal.overflow_add-result
+overflow_add-result g c = omega (arith, above g c)

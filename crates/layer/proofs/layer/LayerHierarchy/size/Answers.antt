@@ -4,14 +4,14 @@ use Rattle.monitor.specs.Tables.{automaton_of}
 use Rattle.layer.proofs.Layers.{fits_small, large_is, over_large, told_large, told_above}
 use Rattle.layer.proofs.layer.LayerHierarchy.size.Goals as goal
 
-pub returns-in-default : goal.returns-in-default
-returns-in-default g c =
+pub returns-in_default : goal.returns-in_default
+returns-in_default g c =
     let m = g.B.Hierarchy.meaning c.args.self.now.below.now in
     let a = automaton_of c.args.self.now.monitor in
-    told_large m a (over_large m a (large_is m c.in-default.ensures))
+    told_large m a (over_large m a (large_is m c.in_default.ensures))
 
-pub sizes-above-requires : goal.sizes-above-requires
-sizes-above-requires g c =
+pub sizes_above-requires : goal.sizes_above-requires
+sizes_above-requires g c =
     let x = c.args.self.now in
     let h =
     fits_small (g.B.Hierarchy.meaning x.below.now) (g.B.Hierarchy.lawful x.below.now) _ _
@@ -22,5 +22,5 @@ pub returns : goal.returns
 returns g c =
     let x = c.args.self.now in
     let m = g.B.Hierarchy.meaning x.below.now in
-    c.sizes-above.ensures
+    c.sizes_above.ensures
     ∙ told_above m (automaton_of x.monitor) _ _ _ c.in-Fits.ensures c.width.ensures

@@ -13,8 +13,8 @@ returns-then-k-self g t c =
     let end = pile_end (g.B.Hierarchy.meaning x.base.now) x.monitors.now c.args.k c.if-k-self.true in
     c.entry.ensures ∙ sym (ap (λ (m : Meaning). m.entry c.args.i) end)
 
-pub entry-from-requires : goal.entry-from-requires
-entry-from-requires g t c κs within =
+pub entry_from-requires : goal.entry_from-requires
+entry_from-requires g t c κs within =
     let x = c.args.self.now in
     let ms = x.monitors.now in
     let m = g.B.Hierarchy.meaning x.base.now in
@@ -25,7 +25,7 @@ entry-from-requires g t c κs within =
     let low : c.args.i / c.width-f.result < (pile (drop (k + 1) ms) m).structures = entry_under _ _ (automaton_of (get_or ms k d)) s c.width-f.result c.width-f.ensures (width_some (get_or ms k d)) c.args.i c.requires.1 in
     search rules
 
-above : (g : given.Over) (t : ℕ) (c : goal.After-entry-from g t) → c.entry_from.result * c.width-f.result + c.args.i % c.width-f.result < 1024
+above : (g : given.Over) (t : ℕ) (c : goal.After-entry_from g t) → c.entry_from.result * c.width-f.result + c.args.i % c.width-f.result < 1024
 above g t c =
     let x = c.args.self.now in
     let ms = x.monitors.now in
@@ -36,11 +36,11 @@ above g t c =
     rw c.entry_from.ensures
     (entry_small _ _ (automaton_of (get_or ms k d)) s c.width-f.result c.width-f.ensures (width_some (get_or ms k d)) (pile_lawful (drop (k + 1) ms) (g.B.Hierarchy.lawful x.base.now)) c.args.i c.requires.1)
 
-pub overflow-mul-result : goal.overflow-mul-result
-overflow-mul-result g t c = omega (arith, above g t c)
+pub overflow_mul-result : goal.overflow_mul-result
+overflow_mul-result g t c = omega (arith, above g t c)
 
-pub overflow-add-result : goal.overflow-add-result
-overflow-add-result g t c = omega (arith, above g t c)
+pub overflow_add-result : goal.overflow_add-result
+overflow_add-result g t c = omega (arith, above g t c)
 
 pub returns : goal.returns
 returns g t c =

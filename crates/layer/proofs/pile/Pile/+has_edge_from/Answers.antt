@@ -12,10 +12,10 @@ pub returns-then-k-self : goal.returns-then-k-self
 returns-then-k-self g t c =
     let x = c.args.self.now in
     let end = pile_end (g.B.Hierarchy.meaning x.base.now) x.monitors.now c.args.k c.if-k-self.true in
-    c.has-edge.ensures ∙ sym (ap (λ (m : Meaning). m.edge c.args.i c.args.p c.args.w) end)
+    c.has_edge.ensures ∙ sym (ap (λ (m : Meaning). m.edge c.args.i c.args.p c.args.w) end)
 
-pub has-edge-from-requires : goal.has-edge-from-requires
-has-edge-from-requires g t c κs within =
+pub has_edge_from-requires : goal.has_edge_from-requires
+has_edge_from-requires g t c κs within =
     let x = c.args.self.now in
     let ms = x.monitors.now in
     let m = g.B.Hierarchy.meaning x.base.now in
@@ -24,8 +24,8 @@ has-edge-from-requires g t c κs within =
     let fits : (pile (drop (k + 1) ms) m).large ≡ false = (pile_spread m ms k d c.if-k-self.false c.requires).under_fits in
     search rules
 
-pub look-from-left-requires : goal.look-from-left-requires
-look-from-left-requires g t c =
+pub look_from-left-requires : goal.look_from-left-requires
+look_from-left-requires g t c =
     let x = c.args.self.now in
     let ms = x.monitors.now in
     let m = g.B.Hierarchy.meaning x.base.now in
@@ -34,15 +34,15 @@ look-from-left-requires g t c =
     let fits : (pile (drop (k + 1) ms) m).large ≡ false = (pile_spread m ms k d c.if-k-self.false c.requires).under_fits in
     fits
 
-pub returns-then-not-has-edge-from : goal.returns-then-not-has-edge-from
-returns-then-not-has-edge-from g t c =
+pub returns-then-not-has_edge_from : goal.returns-then-not-has_edge_from
+returns-then-not-has_edge_from g t c =
     let x = c.args.self.now in
     let ms = x.monitors.now in
     let m = g.B.Hierarchy.meaning x.base.now in
     let k = c.args.k in
     let d = c.index-self-k.result in
     let s = pile_spread m ms k d c.if-k-self.false c.requires in
-    edge_none _ _ (automaton_of (get_or ms k d)) s c.width-f.result c.width-f.ensures c.args.i c.args.p c.args.w (sym c.if-not-has-edge-from.ensures)
+    edge_none _ _ (automaton_of (get_or ms k d)) s c.width-f.result c.width-f.ensures c.args.i c.args.p c.args.w (sym c.if-not-has_edge_from.ensures)
 
 pub returns : goal.returns
 returns g t c =
@@ -53,7 +53,7 @@ returns g t c =
     let d = c.index-self-k.result in
     let s = pile_spread m ms k d c.if-k-self.false c.requires in
     let a = automaton_of (get_or ms k d) in
-    let left = c.look-from-left.ensures in
+    let left = c.look_from-left.ensures in
     c.moves.ensures
     ∙ ap (λ (l : Look). moves a l.letter l.mark c.args.p c.args.w) left
-    ∙ edge_moves _ _ (automaton_of (get_or ms k d)) s c.width-f.result c.width-f.ensures c.args.i c.args.p c.args.w (sym c.if-not-has-edge-from.ensures)
+    ∙ edge_moves _ _ (automaton_of (get_or ms k d)) s c.width-f.result c.width-f.ensures c.args.i c.args.p c.args.w (sym c.if-not-has_edge_from.ensures)

@@ -12,10 +12,10 @@ pub returns-then-k-self : goal.returns-then-k-self
 returns-then-k-self g t c =
     let x = c.args.self.now in
     let end = pile_end (g.B.Hierarchy.meaning x.base.now) x.monitors.now c.args.k c.if-k-self.true in
-    c.has-leave.ensures ∙ sym (ap (λ (m : Meaning). m.leave c.args.i c.args.b c.args.e c.args.w) end)
+    c.has_leave.ensures ∙ sym (ap (λ (m : Meaning). m.leave c.args.i c.args.b c.args.e c.args.w) end)
 
-pub has-leave-from-requires : goal.has-leave-from-requires
-has-leave-from-requires g t c κs within =
+pub has_leave_from-requires : goal.has_leave_from-requires
+has_leave_from-requires g t c κs within =
     let x = c.args.self.now in
     let ms = x.monitors.now in
     let m = g.B.Hierarchy.meaning x.base.now in
@@ -24,8 +24,8 @@ has-leave-from-requires g t c κs within =
     let fits : (pile (drop (k + 1) ms) m).large ≡ false = (pile_spread m ms k d c.if-k-self.false c.requires).under_fits in
     search rules
 
-pub place-from-requires : goal.place-from-requires
-place-from-requires g t c =
+pub place_from-requires : goal.place_from-requires
+place_from-requires g t c =
     let x = c.args.self.now in
     let ms = x.monitors.now in
     let m = g.B.Hierarchy.meaning x.base.now in
@@ -34,8 +34,8 @@ place-from-requires g t c =
     let fits : (pile (drop (k + 1) ms) m).large ≡ false = (pile_spread m ms k d c.if-k-self.false c.requires).under_fits in
     fits
 
-pub look-from-left-requires : goal.look-from-left-requires
-look-from-left-requires g t c =
+pub look_from-left-requires : goal.look_from-left-requires
+look_from-left-requires g t c =
     let x = c.args.self.now in
     let ms = x.monitors.now in
     let m = g.B.Hierarchy.meaning x.base.now in
@@ -44,15 +44,15 @@ look-from-left-requires g t c =
     let fits : (pile (drop (k + 1) ms) m).large ≡ false = (pile_spread m ms k d c.if-k-self.false c.requires).under_fits in
     fits
 
-pub returns-then-not-has-leave-from : goal.returns-then-not-has-leave-from
-returns-then-not-has-leave-from g t c =
+pub returns-then-not-has_leave_from : goal.returns-then-not-has_leave_from
+returns-then-not-has_leave_from g t c =
     let x = c.args.self.now in
     let ms = x.monitors.now in
     let m = g.B.Hierarchy.meaning x.base.now in
     let k = c.args.k in
     let d = c.index-self-k.result in
     let s = pile_spread m ms k d c.if-k-self.false c.requires in
-    leave_none _ _ (automaton_of (get_or ms k d)) s c.width-f.result c.width-f.ensures c.args.i c.args.b c.args.e c.args.w (sym c.if-not-has-leave-from.ensures)
+    leave_none _ _ (automaton_of (get_or ms k d)) s c.width-f.result c.width-f.ensures c.args.i c.args.b c.args.e c.args.w (sym c.if-not-has_leave_from.ensures)
 
 pub returns-in-Box : goal.returns-in-Box
 returns-in-Box g t c =
@@ -63,17 +63,17 @@ returns-in-Box g t c =
     let d = c.index-self-k.result in
     let s = pile_spread m ms k d c.if-k-self.false c.requires in
     let a = automaton_of (get_or ms k d) in
-    let left = c.look-from-left.ensures in
+    let left = c.look_from-left.ensures in
     c.moves.ensures
     ∙ ap (λ (l : Look). moves a l.letter l.mark c.args.e c.args.w) left
-    ∙ leave_moves _ _ (automaton_of (get_or ms k d)) s c.width-f.result c.width-f.ensures c.args.i c.args.b c.args.e c.args.w c.in-Box.j (sym c.if-not-has-leave-from.ensures) c.in-Box.ensures
+    ∙ leave_moves _ _ (automaton_of (get_or ms k d)) s c.width-f.result c.width-f.ensures c.args.i c.args.b c.args.e c.args.w c.in-Box.j (sym c.if-not-has_leave_from.ensures) c.in-Box.ensures
 
-pub returns-in-default : goal.returns-in-default
-returns-in-default g t c =
+pub returns-in_default : goal.returns-in_default
+returns-in_default g t c =
     let x = c.args.self.now in
     let ms = x.monitors.now in
     let m = g.B.Hierarchy.meaning x.base.now in
     let k = c.args.k in
     let d = c.index-self-k.result in
     let s = pile_spread m ms k d c.if-k-self.false c.requires in
-    leave_other _ _ (automaton_of (get_or ms k d)) s c.width-f.result c.width-f.ensures c.args.i c.args.b c.args.e c.args.w (λ j e. c.in-default.not-Box j (c.place-from.ensures ∙ e))
+    leave_other _ _ (automaton_of (get_or ms k d)) s c.width-f.result c.width-f.ensures c.args.i c.args.b c.args.e c.args.w (λ j e. c.in_default.not-Box j (c.place_from.ensures ∙ e))

@@ -10,10 +10,10 @@ pub returns-then-k-self : goal.returns-then-k-self
 returns-then-k-self g t c =
     let x = c.args.self.now in
     let end = pile_end (g.B.Hierarchy.meaning x.base.now) x.monitors.now c.args.k c.if-k-self.true in
-    c.is-exit.ensures ∙ sym (ap (λ (m : Meaning). m.exits c.args.i c.args.p) end)
+    c.is_exit.ensures ∙ sym (ap (λ (m : Meaning). m.exits c.args.i c.args.p) end)
 
-pub is-exit-from-requires : goal.is-exit-from-requires
-is-exit-from-requires g t c κs within =
+pub is_exit_from-requires : goal.is_exit_from-requires
+is_exit_from-requires g t c κs within =
     let x = c.args.self.now in
     let ms = x.monitors.now in
     let m = g.B.Hierarchy.meaning x.base.now in
@@ -30,4 +30,4 @@ returns g t c =
     let k = c.args.k in
     let d = c.index-self-k.result in
     let s = pile_spread m ms k d c.if-k-self.false c.requires in
-    c.is-exit-from.ensures ∙ exits_above _ _ (automaton_of (get_or ms k d)) s c.width-f.result c.width-f.ensures c.args.i c.args.p
+    c.is_exit_from.ensures ∙ exits_above _ _ (automaton_of (get_or ms k d)) s c.width-f.result c.width-f.ensures c.args.i c.args.p

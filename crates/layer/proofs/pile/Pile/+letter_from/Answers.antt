@@ -13,8 +13,8 @@ returns-then-k-self g t c =
     let end = pile_end (g.B.Hierarchy.meaning x.base.now) x.monitors.now c.args.k c.if-k-self.true in
     ap (λ (l : Look). l.letter) c.look.ensures ∙ sym (ap (λ (m : Meaning). m.letter c.args.i c.args.p) end)
 
-pub letter-from-requires : goal.letter-from-requires
-letter-from-requires g t c κs within =
+pub letter_from-requires : goal.letter_from-requires
+letter_from-requires g t c κs within =
     let x = c.args.self.now in
     let ms = x.monitors.now in
     let m = g.B.Hierarchy.meaning x.base.now in
@@ -31,4 +31,4 @@ returns g t c =
     let k = c.args.k in
     let d = c.index-self-k.result in
     let s = pile_spread m ms k d c.if-k-self.false c.requires in
-    c.letter-from.ensures ∙ letter_above _ _ (automaton_of (get_or ms k d)) s c.width-f.result c.width-f.ensures c.args.i c.args.p
+    c.letter_from.ensures ∙ letter_above _ _ (automaton_of (get_or ms k d)) s c.width-f.result c.width-f.ensures c.args.i c.args.p

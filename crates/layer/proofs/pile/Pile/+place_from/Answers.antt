@@ -14,8 +14,8 @@ returns-then-k-self g t c =
     let end = pile_end (g.B.Hierarchy.meaning x.base.now) x.monitors.now c.args.k c.if-k-self.true in
     c.place.ensures ∙ sym (ap (λ (m : Meaning). place_told (m.place c.args.i c.args.p)) end)
 
-pub place-from-requires : goal.place-from-requires
-place-from-requires g t c κs within =
+pub place_from-requires : goal.place_from-requires
+place_from-requires g t c κs within =
     let x = c.args.self.now in
     let ms = x.monitors.now in
     let m = g.B.Hierarchy.meaning x.base.now in
@@ -34,11 +34,11 @@ box_below g t c =
     let s = pile_spread m ms k d c.if-k-self.false c.requires in
     box_small _ _ (automaton_of (get_or ms k d)) s c.width-f.result c.width-f.ensures c.args.i c.args.p (pile_lawful (drop (k + 1) ms) (g.B.Hierarchy.lawful x.base.now)) (width_some (get_or ms k d)) c.in-Box.j c.in-Box.ensures
 
-pub overflow-mul-result : goal.overflow-mul-result
-overflow-mul-result g t c = omega (arith, box_below g t c)
+pub overflow_mul-result : goal.overflow_mul-result
+overflow_mul-result g t c = omega (arith, box_below g t c)
 
-pub overflow-add-result : goal.overflow-add-result
-overflow-add-result g t c = omega (arith, box_below g t c)
+pub overflow_add-result : goal.overflow_add-result
+overflow_add-result g t c = omega (arith, box_below g t c)
 
 pub returns-in-Absent : goal.returns-in-Absent
 returns-in-Absent g t c =

@@ -13,8 +13,8 @@ returns-then-k-self g t c =
     let end = pile_end (g.B.Hierarchy.meaning x.base.now) x.monitors.now c.args.k c.if-k-self.true in
     c.size.ensures ∙ sym (ap size_told end)
 
-pub returns-in-default : goal.returns-in-default
-returns-in-default g t c =
+pub returns-in_default : goal.returns-in_default
+returns-in_default g t c =
     let x = c.args.self.now in
     let ms = x.monitors.now in
     let m = g.B.Hierarchy.meaning x.base.now in
@@ -22,11 +22,11 @@ returns-in-default g t c =
     let d = c.index-self-k.result in
     let under = pile (drop (k + 1) ms) m in
     let a = automaton_of (get_or ms k d) in
-    told_large under a (over_large under a (large_is under c.in-default.ensures))
+    told_large under a (over_large under a (large_is under c.in_default.ensures))
     ∙ sym (ap size_told (pile_more m ms k d c.if-k-self.false))
 
-pub sizes-above-requires : goal.sizes-above-requires
-sizes-above-requires g t c =
+pub sizes_above-requires : goal.sizes_above-requires
+sizes_above-requires g t c =
     let x = c.args.self.now in
     let ms = x.monitors.now in
     let m = g.B.Hierarchy.meaning x.base.now in
@@ -42,6 +42,6 @@ returns g t c =
     let m = g.B.Hierarchy.meaning x.base.now in
     let k = c.args.k in
     let d = c.index-self-k.result in
-    c.sizes-above.ensures
+    c.sizes_above.ensures
     ∙ told_above (pile (drop (k + 1) ms) m) (automaton_of (get_or ms k d)) _ _ _ c.in-Fits.ensures c.width.ensures
     ∙ sym (ap size_told (pile_more m ms k d c.if-k-self.false))

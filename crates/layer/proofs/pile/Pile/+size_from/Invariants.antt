@@ -2,5 +2,5 @@
 use Rattle.std.proofs.Common.{◌-◌, length}
 use Rattle.layer.proofs.pile.Pile.+size_from.Given as goal
 
-abbrev pub decreases-size-from : goal.decreases-size-from
-decreases-size-from g l = length l.self.now.monitors.now - l.k
+abbrev pub decreases-size_from : goal.decreases-size_from
+decreases-size_from g l = length l.self.now.monitors.now - l.k

@@ -13,8 +13,8 @@ returns-then-k-self g c =
     let end = pile_end (g.B.Hierarchy.meaning x.base.now) x.monitors.now c.args.k c.if-k-self.true in
     c.look.ensures ∙ sym (ap (λ (m : Meaning). look_told m c.args.i c.args.p) end)
 
-pub letter-from-letter-requires : goal.letter-from-letter-requires
-letter-from-letter-requires g c =
+pub letter_from-letter-requires : goal.letter_from-letter-requires
+letter_from-letter-requires g c =
     let x = c.args.self.now in
     let ms = x.monitors.now in
     let m = g.B.Hierarchy.meaning x.base.now in
@@ -23,8 +23,8 @@ letter-from-letter-requires g c =
     let fits : (pile (drop (k + 1) ms) m).large ≡ false = (pile_spread m ms k d c.if-k-self.false c.requires).under_fits in
     fits
 
-pub place-from-requires : goal.place-from-requires
-place-from-requires g c =
+pub place_from-requires : goal.place_from-requires
+place_from-requires g c =
     let x = c.args.self.now in
     let ms = x.monitors.now in
     let m = g.B.Hierarchy.meaning x.base.now in
@@ -41,7 +41,7 @@ returns-then-not-marks g c =
     let k = c.args.k in
     let d = c.index-self-k.result in
     let s = pile_spread m ms k d c.if-k-self.false c.requires in
-    let letter = c.letter-from-letter.ensures ∙ letter_above _ _ (automaton_of (get_or ms k d)) s c.width-f.result c.width-f.ensures c.args.i c.args.p in
+    let letter = c.letter_from-letter.ensures ∙ letter_above _ _ (automaton_of (get_or ms k d)) s c.width-f.result c.width-f.ensures c.args.i c.args.p in
     let mark = mark_unmarked _ _ (automaton_of (get_or ms k d)) s c.width-f.result c.width-f.ensures c.args.i c.args.p (sym c.if-not-marks.ensures) in
     cc
 
@@ -53,18 +53,18 @@ returns-in-Node g c =
     let k = c.args.k in
     let d = c.index-self-k.result in
     let s = pile_spread m ms k d c.if-k-self.false c.requires in
-    let letter = c.letter-from-letter.ensures ∙ letter_above _ _ (automaton_of (get_or ms k d)) s c.width-f.result c.width-f.ensures c.args.i c.args.p in
+    let letter = c.letter_from-letter.ensures ∙ letter_above _ _ (automaton_of (get_or ms k d)) s c.width-f.result c.width-f.ensures c.args.i c.args.p in
     let mark = mark_node _ _ (automaton_of (get_or ms k d)) s c.width-f.result c.width-f.ensures c.args.i c.args.p (sym c.if-not-marks.ensures) c.in-Node.ensures in
     cc
 
-pub returns-in-default : goal.returns-in-default
-returns-in-default g c =
+pub returns-in_default : goal.returns-in_default
+returns-in_default g c =
     let x = c.args.self.now in
     let ms = x.monitors.now in
     let m = g.B.Hierarchy.meaning x.base.now in
     let k = c.args.k in
     let d = c.index-self-k.result in
     let s = pile_spread m ms k d c.if-k-self.false c.requires in
-    let letter = c.letter-from-letter.ensures ∙ letter_above _ _ (automaton_of (get_or ms k d)) s c.width-f.result c.width-f.ensures c.args.i c.args.p in
-    let mark = mark_other _ _ (automaton_of (get_or ms k d)) s c.width-f.result c.width-f.ensures c.args.i c.args.p (λ e. c.in-default.not-Node (c.place-from.ensures ∙ e)) in
+    let letter = c.letter_from-letter.ensures ∙ letter_above _ _ (automaton_of (get_or ms k d)) s c.width-f.result c.width-f.ensures c.args.i c.args.p in
+    let mark = mark_other _ _ (automaton_of (get_or ms k d)) s c.width-f.result c.width-f.ensures c.args.i c.args.p (λ e. c.in_default.not-Node (c.place_from.ensures ∙ e)) in
     cc

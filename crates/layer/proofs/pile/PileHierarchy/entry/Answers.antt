@@ -5,12 +5,12 @@ use Rattle.layer.proofs.Layers.{large_is, fits_is}
 use Rattle.layer.proofs.Piles.{large_entry}
 use Rattle.layer.proofs.pile.PileHierarchy.entry.Goals as goal
 
-pub returns-in-default : goal.returns-in-default
-returns-in-default g c =
+pub returns-in_default : goal.returns-in_default
+returns-in_default g c =
     let x = c.args.self.now in
     let m = pile x.monitors.now (g.B.Hierarchy.meaning x.base.now) in
     let law = pile_lawful x.monitors.now (g.B.Hierarchy.lawful x.base.now) in
-    large_entry m law (large_is m c.in-default.ensures) c.args.i
+    large_entry m law (large_is m c.in_default.ensures) c.args.i
 
 pub returns-then-i-structures : goal.returns-then-i-structures
 returns-then-i-structures g c =

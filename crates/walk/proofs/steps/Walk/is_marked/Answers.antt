@@ -9,5 +9,5 @@ returns g c =
     let w = c.args.self.now in
     let fs = c.args.frames.now in
     ap (λ l. l.mark) c.look.ensures ∙
-    mark_there m w fs c.structure-behind-structure.result c.node.result
-    (c.structure-behind-structure.ensures ∙ ap (structure_behind_lem m 0) c.outer.ensures) (c.node.ensures fs)
+    mark_there m w fs c.structure_behind-structure.result c.node.result
+    (c.structure_behind-structure.ensures ∙ ap (structure_behind_lem m 0) c.outer.ensures) (c.node.ensures fs)

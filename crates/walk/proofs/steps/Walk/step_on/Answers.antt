@@ -14,7 +14,7 @@ loop-i-init g c =
 pub loop-i-preserved : goal.loop-i-preserved
 loop-i-preserved g c =
     let m = g.B.Hierarchy.meaning c.args.h.now in
-    let s = c.in-ok-step.ensures in
+    let s = c.in_ok-step.ensures in
     let k = lacking m (length c.args.guide.now) (length c.args.frames.now) in
     let a : Answers {X = Unit {0}} k (Ok tt) = subst (λ n. Answers {X = Unit {0}} (lacking m (length c.args.guide.now) n) (Ok tt)) c.loop-i.auto.frames s.answer in (
       s.home ∙ c.loop-i.invariant.0,
@@ -25,12 +25,12 @@ loop-i-preserved g c =
       answers_made (c.loop-i.i + 1) k a,
     )
 
-pub returns-in-err-step : goal.returns-in-err-step
-returns-in-err-step g c =
+pub returns-in_err-step : goal.returns-in_err-step
+returns-in_err-step g c =
     let m = g.B.Hierarchy.meaning c.args.h.now in
-    let e = c.in-err-step.field-0.0 in
-    let f : c.from-residual.result ≡ Err e = search rules in
-    let s = c.in-err-step.ensures in
+    let e = c.in_err-step.field-0.0 in
+    let f : c.from_residual.result ≡ Err e = search rules in
+    let s = c.in_err-step.ensures in
     let u = s.unaltered refl in
     let k = lacking m (length c.args.guide.now) (length c.args.frames.now) in
     let a : Answers {X = Unit {0}} k (Err e) = subst (λ n. Answers {X = Unit {0}} (lacking m (length c.args.guide.now) n) (Err e)) c.loop-i.auto.frames s.answer in
@@ -42,7 +42,7 @@ returns-in-err-step g c =
       answer = subst (Answers {X = Unit {0}} (unless_none c.args.n k)) (sym f) (answers_refused (Unit {0}) (Unit {0}) c.args.n k e z a);
       unaltered = λ r l. (u.0 ∙ (c.loop-i.invariant.3 r l).0, u.1 ∙ (c.loop-i.invariant.3 r l).1);
       path = subst (Walked m c.args.n before (state_shown m c.step.new.self c.step.new.frames)) (sym f) (c.loop-i.i, c.loop-i-test.true, p);
-      follows = λ o. absurd (err_not_ok c.from-residual.result c.from-residual.ensures.0 o);
+      follows = λ o. absurd (err_not_ok c.from_residual.result c.from_residual.ensures.0 o);
       accepted = λ n G w l. absurd (both_ways false refl
           (accepts_later m c.args.guide.now c.args.self.now c.args.frames.now c.loop-i.self c.loop-i.frames c.loop-i.invariant.0
           c.loop-i.i (Err e) c.loop-i.invariant.1 c.loop-i.auto.frames s.accepted n G w l));

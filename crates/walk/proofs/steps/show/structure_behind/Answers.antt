@@ -12,7 +12,7 @@ pub loop-f-preserved : goal.loop-f-preserved
 loop-f-preserved g c =
     c.loop-f.invariant ∙
     behind_more (g.B.Hierarchy.meaning c.args.h.now) c.args.frames.now c.loop-f.f-index c.loop-f.structure blank_frame
-    c.place.result c.inner-of-structure.result c.loop-f-test.true c.place.ensures c.inner-of-structure.ensures
+    c.place.result c.inner_of-structure.result c.loop-f-test.true c.place.ensures c.inner_of-structure.ensures
 
 pub returns : goal.returns
 returns g c = sym (c.loop-f.invariant ∙ ap (structure_behind_lem (g.B.Hierarchy.meaning c.args.h.now) c.loop-f.structure) (drop_all _ _ c.loop-f-test.false))

@@ -3,5 +3,5 @@ use Rattle.std.proofs.Common.{sym, arith}
 use Rattle.wheel.proofs.Bounds.{box_level}
 use Rattle.wheel.proofs.questions.WheelHierarchy.has_leave.Goals as goal
 
-pub overflow-add-i : goal.overflow-add-i
-overflow-add-i c = omega (arith, box_level c.args.self.now c.args.i c.args.b (sym c.if-not-is-box.ensures))
+pub overflow_add-i : goal.overflow_add-i
+overflow_add-i c = omega (arith, box_level c.args.self.now c.args.i c.args.b (sym c.if-not-is_box.ensures))

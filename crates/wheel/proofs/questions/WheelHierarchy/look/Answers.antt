@@ -14,8 +14,8 @@ returns-then-mark c =
     let letter = letter_marked sizes i p marked in
     cc
 
-pub returns-then-is-item-is-last : goal.returns-then-is-item-is-last
-returns-then-is-item-is-last c =
+pub returns-then-is_item-is_last : goal.returns-then-is_item-is_last
+returns-then-is_item-is_last c =
     let sizes = sizes_of c.args.self.now in
     let i = c.args.i in
     let p = c.args.p in
@@ -24,8 +24,8 @@ returns-then-is-item-is-last c =
     let letter = letter_item sizes i p marked item in
     cc
 
-pub returns-else-is-item-is-last : goal.returns-else-is-item-is-last
-returns-else-is-item-is-last c =
+pub returns-else-is_item-is_last : goal.returns-else-is_item-is_last
+returns-else-is_item-is_last c =
     let sizes = sizes_of c.args.self.now in
     let i = c.args.i in
     let p = c.args.p in

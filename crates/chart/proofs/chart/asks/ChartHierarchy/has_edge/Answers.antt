@@ -15,7 +15,7 @@ returns-then-i-structures c =
       | then-i-structures-via-else-i-structures+else-p-places+then-w-places w ↦ inr (inr (omega (arith, w.if-w-places.true, c.structures-structures.ensures, c.args.self.now.longest)))
     ]))
 
-pub is-edge-requires : goal.is-edge-requires
-is-edge-requires c =
+pub is_edge-requires : goal.is_edge-requires
+is_edge-requires c =
     let s : longest (sheet c.args.self.now) ≤ 16 = longest_le (sheet c.args.self.now) 16 c.args.self.now.places in
     (omega (arith, c.if-p-places.false, c.args.self.now.longest), omega (arith, c.if-w-places.false, c.args.self.now.longest))

@@ -16,7 +16,7 @@ returns-then-i-structures c =
       | then-i-structures-via-else-i-structures+else-b-places+else-e-places+then-w-places w ↦ inr (inr (inr (omega (arith, w.if-w-places.true, c.structures-structures.ensures, c.args.self.now.longest))))
     ]))
 
-pub is-leave-requires : goal.is-leave-requires
-is-leave-requires c =
+pub is_leave-requires : goal.is_leave-requires
+is_leave-requires c =
     let s : longest (sheet c.args.self.now) ≤ 16 = longest_le (sheet c.args.self.now) 16 c.args.self.now.places in
     (omega (arith, c.if-b-places.false, c.args.self.now.longest), (omega (arith, c.if-e-places.false, c.args.self.now.longest), omega (arith, c.if-w-places.false, c.args.self.now.longest)))
