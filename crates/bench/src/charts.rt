@@ -3,6 +3,7 @@
 use chart::Chart;
 use hierarchy::Refusal;
 
+// The program worked_run draws the same chart: a crate for two functions of two programs would be no plainer.
 // In structure `i` the entry leads to box 1, box 1 to box 2, and box 2 to the exit 3; both boxes name the structure below.
 fn nest(
     chart: &mut Chart,
@@ -29,8 +30,8 @@ pub fn nested() -> Result<Chart, Refusal> {
     chart.exit(31, 1)?;
     chart.edge(31, 0, 1)?;
     nest(&mut chart, 30, 31, 1, 0)?;
-    for k in 0..29 {
-        nest(&mut chart, 29 - k, 30 - k, 3, 0)?;
+    for i in (1..30).rev() {
+        nest(&mut chart, i, i + 1, 3, 0)?;
     }
     nest(&mut chart, 0, 1, 3, 128)?;
     chart.edge(0, 3, 0)?;

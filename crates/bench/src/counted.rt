@@ -38,7 +38,7 @@ impl<'a, B: Hierarchy> Hierarchy for Counted<'a, B> {
 
     ghost lawful = { λ x. B.Hierarchy.lawful x.below.now };
 
-    fn size(&self) -> Size {
+    fn size(&self) -> Option<Size> {
         count(&self.asked);
         self.below.size()
     }

@@ -7,9 +7,7 @@ mod counted;
 mod measure;
 
 use crate::charts::{many_exits, nested};
-use crate::measure::{measure, tell_refusal};
-use chart::Chart;
-use hierarchy::Refusal;
+use crate::measure::measure;
 use std::io;
 use wheel::Wheel;
 
@@ -17,22 +15,12 @@ fn measure_wheel(rt: &HostRuntime, sizes: &[usize]) -> io::Result<()> {
     let levels = sizes.len();
     let items = sizes.first().copied().unwrap_or(0);
     print!(rt; "wheel, levels {levels}, items {items}: ")?;
-    match Wheel::new(sizes) {
-        Ok(wheel) => measure(rt, &wheel),
-        Err(refusal) => tell_refusal(rt, refusal),
-    }
-}
-
-fn measure_chart(rt: &HostRuntime, chart: Result<Chart, Refusal>) -> io::Result<()> {
-    match chart {
-        Ok(chart) => measure(rt, &chart),
-        Err(refusal) => tell_refusal(rt, refusal),
-    }
+    measure(rt, Wheel::new(sizes))
 }
 
 fn measure_exits(rt: &HostRuntime, exits: usize, leaves: usize) -> io::Result<()> {
     print!(rt; "chart, exits {exits}, leaves {leaves}: ")?;
-    measure_chart(rt, many_exits(exits, leaves))
+    measure(rt, many_exits(exits, leaves))
 }
 
 fn measure_wheels(rt: &HostRuntime) -> io::Result<()> {
@@ -50,7 +38,7 @@ fn measure_wheels(rt: &HostRuntime) -> io::Result<()> {
 fn main(rt: HostRuntime) -> io::Result<()> {
     measure_wheels(&rt)?;
     print!(rt; "chart, nested: ")?;
-    measure_chart(&rt, nested())?;
+    measure(&rt, nested())?;
     measure_exits(&rt, 1, 13)?;
     measure_exits(&rt, 7, 13)?;
     measure_exits(&rt, 14, 13)?;

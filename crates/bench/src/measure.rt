@@ -7,45 +7,50 @@ use judge::judge;
 use std::io;
 
 // What could not be made or judged.
-pub fn tell_refusal(rt: &HostRuntime, refusal: Refusal) -> io::Result<()> {
+fn tell_refusal(rt: &HostRuntime, refusal: Refusal) -> io::Result<()> {
     let number = refusal.number();
     println!(rt; "refused {number}")
 }
 
 // Hundredths of a question for each structure and each pair of place numbers.
-fn hundredths(asked: u64, structures: usize, places: usize) -> u64 {
-    let pairs = (places as u64).saturating_mul(places as u64);
-    let room = pairs.saturating_mul(structures as u64);
-    if room == 0 {
-        return 0;
-    }
-    asked.saturating_mul(100) / room
+fn hundredths(asked: u64, size: Size) -> u64 {
+    let places = size.places as u64;
+    let room = places
+        .saturating_mul(places)
+        .saturating_mul(size.structures as u64);
+    asked.saturating_mul(100).checked_div(room).unwrap_or(0)
 }
 
-fn tell_asked(rt: &HostRuntime, asked: u64, structures: usize, places: usize) -> io::Result<()> {
-    let share = hundredths(asked, structures, places);
+fn tell_asked(rt: &HostRuntime, asked: u64, size: Size) -> io::Result<()> {
+    let share = hundredths(asked, size);
+    let Size { structures, places } = size;
     println!(rt; "size {structures} {places}, questions {asked}, {share} hundredths of S * P * P")
 }
 
-fn measure_sized<B: Hierarchy>(
-    rt: &HostRuntime,
-    h: &B,
-    structures: usize,
-    places: usize,
-) -> io::Result<()> {
-    let records = structures.saturating_add(1).saturating_mul(places);
+fn measure_sized<B: Hierarchy>(rt: &HostRuntime, h: &B, size: Size) -> io::Result<()> {
+    let records = size
+        .structures
+        .saturating_add(1)
+        .saturating_mul(size.places);
     let mut guide = vec![in rt.alloc(); GuideRecord::blank(); records]?;
     let counted = Counted::new(h);
     match judge(&counted, guide.as_mut_slice()) {
-        Ok(_) => tell_asked(rt, counted.asked(), structures, places),
+        Ok(_) => tell_asked(rt, counted.asked(), size),
         Err(refusal) => tell_refusal(rt, refusal),
     }
 }
 
-// The row of a hierarchy, after its name.
-pub fn measure<B: Hierarchy>(rt: &HostRuntime, h: &B) -> io::Result<()> {
-    match h.size() {
-        Size::Fits(structures, places) => measure_sized(rt, h, structures, places),
-        Size::TooLarge => tell_refusal(rt, Refusal::TooLarge),
+// A hierarchy and its size.
+fn sized<B: Hierarchy + Drop>(made: Result<B, Refusal>) -> Result<(B, Size), Refusal> {
+    let h = made?;
+    let size = h.size().ok_or(Refusal::TooLarge)?;
+    Ok((h, size))
+}
+
+// The row of a hierarchy, after its name, or the refusal of what could not be made.
+pub fn measure<B: Hierarchy + Drop>(rt: &HostRuntime, made: Result<B, Refusal>) -> io::Result<()> {
+    match sized(made) {
+        Ok((h, size)) => measure_sized(rt, &h, size),
+        Err(refusal) => tell_refusal(rt, refusal),
     }
 }

@@ -13,10 +13,13 @@ mod edits;
 mod places;
 mod replay;
 
-// The first `count` rows count; `most` is the length of the longest.
+// How many structures a chart has at most.
+const STRUCTURES: usize = 32;
+
+// The first `count` rows count; `most` is the length of the longest. A chart uses no heap: its rows lie in an array.
 #[derive(Drop)]
 pub struct Chart {
-    table: [Row; 32],
+    table: [Row; STRUCTURES],
     count: usize,
     most: usize,
     ghost rows: { length table ≡ 32 },

@@ -1,5 +1,6 @@
 // What edits answer, the least refusal first, and what a full chart answers.
-// An edit is told by 0 where it is accepted, and else by the number of its refusal.
+// An edit is told by 0 where it is accepted, and else by the number of its refusal: numbers, since what is tested here are
+// those that the documents name.
 use chart::Chart;
 use hierarchy::{Hierarchy, Size};
 use sheet::Edit;
@@ -13,6 +14,10 @@ fn answer(chart: &mut Chart, edit: Edit) -> u8 {
         Ok(_) => 0,
         Err(refusal) => refusal.number(),
     }
+}
+
+fn size(structures: usize, places: usize) -> Option<Size> {
+    Some(Size { structures, places })
 }
 
 fn leave(i: usize, b: usize, e: usize, w: usize) -> Edit {
@@ -76,7 +81,7 @@ fn one_structure_refuses(rt: HostRuntime) {
     for (number, edit) in script {
         assert_eq!(rt; answer(&mut chart, edit), number);
     }
-    assert_eq!(rt; chart.size(), Size::Fits(1, 1));
+    assert_eq!(rt; chart.size(), size(1, 1));
 }
 
 // The box 1 and the node 2 in structure 0, the exit 1 in structure 1.
@@ -153,9 +158,9 @@ fn charts_have_1_to_32_structures(rt: HostRuntime) -> Result<(), Fail> {
     assert!(rt; chart.begin(0).is_err());
     assert!(rt; chart.begin(33).is_err());
     assert!(rt; chart.begin(FAR).is_err());
-    assert_eq!(rt; chart.size(), Size::Fits(2, 3));
+    assert_eq!(rt; chart.size(), size(2, 3));
     chart.begin(32)?;
-    assert_eq!(rt; chart.size(), Size::Fits(32, 1));
+    assert_eq!(rt; chart.size(), size(32, 1));
     Ok(())
 }
 
@@ -163,13 +168,13 @@ fn charts_have_1_to_32_structures(rt: HostRuntime) -> Result<(), Fail> {
 fn a_17th_place_is_refused(rt: HostRuntime) -> Result<(), Fail> {
     let mut chart = Chart::new();
     chart.begin(2)?;
-    for _n in 1..16 {
+    for _ in 1..16 {
         chart.node(0, 0)?;
     }
     assert_eq!(rt; answer(&mut chart, Edit::Node { i: 0, look: 0 }), 25);
     assert_eq!(rt; answer(&mut chart, Edit::Box { i: 0, inner: 1 }), 25);
     assert_eq!(rt; answer(&mut chart, Edit::Box { i: 0, inner: 2 }), 20);
-    assert_eq!(rt; chart.size(), Size::Fits(2, 16));
+    assert_eq!(rt; chart.size(), size(2, 16));
     Ok(())
 }
 
@@ -180,7 +185,7 @@ fn fill_places(chart: &mut Chart, i: usize) -> Result<(), Fail> {
         chart.node(i, 0x8f)?;
         chart.exit(i, p)?;
     }
-    for _n in 8..16 {
+    for _ in 8..16 {
         if i < 31 {
             chart.add_box(i, i + 1)?;
         } else {
@@ -211,7 +216,7 @@ fn a_chart_full_of_leaves(rt: HostRuntime) -> Result<(), Fail> {
     for i in 0..31 {
         fill_leaves(&mut chart, i)?;
     }
-    assert_eq!(rt; chart.size(), Size::Fits(32, 16));
+    assert_eq!(rt; chart.size(), size(32, 16));
     assert!(rt; chart.has_leave(0, 8, 0, 0) && chart.has_leave(30, 15, 7, 15));
     assert!(rt; !chart.has_leave(31, 15, 7, 15));
     assert_eq!(rt; answer(&mut chart, leave(30, 15, 7, 15)), 26);

@@ -60,13 +60,11 @@ takes_back (Watch State) x = refl
 takes_back (Watch (Step q care value r)) x = refl
 takes_back (Watch (Accept q)) x = refl
 
-same_some : {X : Type 0} {x y : X} → Some x ≡ Some y → x ≡ y
-same_some {X} {x} {y} e = cc
-
 -- records are a prefix code
 pub prefix_code : (c c' : Record) (x y : List ℕ) → record_bytes c ++ x ≡ record_bytes c' ++ y → (c ≡ c') × (x ≡ y)
 prefix_code c c' x y e =
-    let s : (c, x) ≡ (c', y) = same_some (sym (takes_back c x) ∙ ap take_record e ∙ takes_back c' y) in
+    let t : ◌≡◌ {A = Taken} (Some (c, x)) (Some (c', y)) = sym (takes_back c x) ∙ ap take_record e ∙ takes_back c' y in
+    let s : ◌≡◌ {A = Record × List ℕ} (c, x) (c', y) = cc in
     (ap (λ (p : Record × List ℕ). p.0) s, ap (λ (p : Record × List ℕ). p.1) s)
 
 -- ---- what cannot be read is no record
@@ -93,15 +91,9 @@ readable (Watch State) x = record { fields = 0; known = refl; there = omega arit
 readable (Watch (Step q care value r)) x = record { fields = 4; known = refl; there = omega arith }
 readable (Watch (Accept q)) x = record { fields = 1; known = refl; there = omega arith }
 
-none_some : {n : ℕ} {o : Option ℕ} → o ≡ None → o ≡ Some n → ⊥
-none_some {n} {o} e f = let z : ◌≡◌ {A = ℕ} 0 1 = cc in omega arith
-
-some_some : {n m : ℕ} {o : Option ℕ} → o ≡ Some n → o ≡ Some m → n ≡ m
-some_some {n} {m} {o} e f = cc
-
 unreadable_not_readable : {bytes : List ℕ} {r : Refusal} → Unreadable bytes r → Readable bytes → ⊥
-unreadable_not_readable (unknown e) h = none_some e h.known
-unreadable_not_readable (cut e l) h = let s = some_some e h.known in omega (arith, h.there)
+unreadable_not_readable (unknown e) h = cc
+unreadable_not_readable (cut {n = n} e l) h = let s : n ≡ h.fields = cc in omega (arith, h.there)
 
 no_record_unreadable : {bytes : List ℕ} {r : Refusal} (c : Record) (x : List ℕ) → bytes ≡ record_bytes c ++ x → Unreadable bytes r → ⊥
 no_record_unreadable c x e u = unreadable_not_readable u (subst (λ (l : List ℕ). Readable l) (sym e) (readable c x))
@@ -116,18 +108,12 @@ no_unreadable_empty e (cut k l) = absurd (omega (arith, ap length e))
 -- ---- one refusal
 one_unreadable : {bytes : List ℕ} {r r' : Refusal} → Unreadable bytes r → Unreadable bytes r' → r ≡ r'
 one_unreadable (unknown e) (unknown f) = refl
-one_unreadable (unknown e) (cut f l) = absurd (none_some e f)
-one_unreadable (cut f l) (unknown e) = absurd (none_some e f)
+one_unreadable (unknown e) (cut f l) = cc
+one_unreadable (cut f l) (unknown e) = cc
 one_unreadable (cut e l) (cut f m) = refl
 
 same_record : {bytes : List ℕ} (c c' : Record) (x y : List ℕ) → bytes ≡ record_bytes c ++ x → bytes ≡ record_bytes c' ++ y → c ≡ c'
 same_record c c' x y e f = (prefix_code c c' x y (sym e ∙ f)).0
-
-ok_err : {r : Refusal} {o : Result (Unit {0}) Refusal} → o ≡ Ok tt → o ≡ Err r → ⊥
-ok_err {r} {o} e f = let z : ◌≡◌ {A = ℕ} 0 1 = cc in omega arith
-
-err_err : {r r' : Refusal} {o : Result (Unit {0}) Refusal} → o ≡ Err r → o ≡ Err r' → r ≡ r'
-err_err {r} {r'} {o} e f = cc
 
 one_refusal : {first : Bool} {d : Drawing} {bytes : List ℕ} {r r' : Refusal} → Refused first d bytes r → Refused first d bytes r' → r ≡ r'
 one_refusal (missing t e) (missing t' e') = refl
@@ -145,8 +131,7 @@ one_refusal (misplaced c x s n) (by_call c' x' s' p a) = absurd (n (ap is_begin_
 one_refusal (by_call c x s p a) (missing t e) = absurd (no_record_empty c x s e)
 one_refusal (by_call c x s p a) (unreadable u) = absurd (no_record_unreadable c x s u)
 one_refusal (by_call c x s p a) (misplaced c' x' s' n) = absurd (n (ap is_begin_lem (same_record c' c x' x s' s) ∙ p))
-one_refusal {d = d} (by_call c x s p a) (by_call c' x' s' p' a') =
-    err_err a (ap (λ (q : Record). (performed d q).answer) (same_record c c' x x' s s') ∙ a')
+one_refusal (by_call c x s p a) (by_call c' x' s' p' a') = let e = same_record c c' x x' s s' in cc
 
 -- ---- where loading ends no further record can stand
 Halts : Bool → Drawing → List ℕ → Type 0
@@ -157,8 +142,7 @@ unfolding Halts
 refused_halts (missing t e) = λ c x s b a. no_record_empty c x s e
 refused_halts (unreadable u) = λ c x s b a. no_record_unreadable c x s u
 refused_halts (misplaced c' x' s' n) = λ c x s b a. n (ap is_begin_lem (same_record c' c x' x s' s) ∙ b)
-refused_halts {d = d} (by_call c' x' s' p a') =
-    λ c x s b a. ok_err a (ap (λ (q : Record). (performed d q).answer) (same_record c c' x x' s s') ∙ a')
+refused_halts (by_call c' x' s' p a') = λ c x s b a. let e = same_record c c' x x' s s' in cc
 
 ends_halts : {rs : List Record} {d : Drawing} {rest : List ℕ} {answer : Result Bool Fault} → Ends rs d rest answer → Halts (first_of rs) d rest
 unfolding Halts
@@ -194,11 +178,8 @@ one_split (c ∷ rs) (c' ∷ rs') first d after after' rest rest' (then p a s) (
     }
 
 -- ---- one end, one answer
-true_false : {b : Bool} → b ≡ true → b ≡ false → ⊥
-true_false {b} e f = let z : ◌≡◌ {A = ℕ} 0 1 = cc in omega arith
-
 not_refused_at_end : {first : Bool} {d : Drawing} {bytes : List ℕ} {r : Refusal} → first ≡ false → bytes ≡ [] → Refused first d bytes r → ⊥
-not_refused_at_end f z (missing t e) = true_false t f
+not_refused_at_end f z (missing t e) = cc
 not_refused_at_end f z (unreadable u) = no_unreadable_empty z u
 not_refused_at_end f z (misplaced c x s n) = no_record_empty c x s z
 not_refused_at_end f z (by_call c x s p a) = no_record_empty c x s z

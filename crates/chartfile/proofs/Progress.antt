@@ -1,25 +1,16 @@
--- Records one after another: what one more adds, and that a refused call alters nothing.
-use Rattle.std.proofs.Common.{◌≡◌, ℕ, ◌+◌, ◌-◌, ◌<◌, ◌≤◌, Bool, true, false, cond, ◌||◌, eqb, List, [], ◌∷◌, ◌++◌, length, is_ok, Some, None, Ok, Err, Option, Result, sym, refl, ap, ◌∙◌, subst, ap₂, append_assoc, arith, length-append}
-use Rattle.hierarchy.specs.declared.refusal.Refusal.{Refusal}
+-- Records one after another: what one more adds, and what is read at the end.
+use Rattle.std.proofs.Common.{◌≡◌, ℕ, ◌+◌, ◌-◌, ◌<◌, ◌≤◌, Bool, true, false, ◌||◌, eqb, List, [], ◌∷◌, ◌++◌, length, Ok, Err, sym, refl, ap, ◌∙◌, subst, ap₂, append_assoc, arith, length-append}
 use Rattle.hierarchy.specs.declared.refusal.Refusal.TheVariants.{BeginMisplaced}
 use Rattle.hierarchy.specs.Refusals.{first}
-use Rattle.std.proofs.lemmas.List.{append-nil}
+use Rattle.std.proofs.lemmas.List.{append-nil, nil_from_length}
+use Rattle.std.proofs.lemmas.List.Recursion.{or_push}
 use Rattle.std.proofs.lemmas.Bool.{ne_eqb}
-use Rattle.sheet.specs.declared.Edit.{Edit}
-use Rattle.sheet.specs.Sheet.{Sheet}
-use Rattle.sheet.specs.Edits as sheets
-use Rattle.sheet.specs.Replay.{applied, some, none as none_told}
-use Rattle.monitor.specs.declared.replay.MonitorEdit.{MonitorEdit}
-use Rattle.monitor.specs.Automata.{Automaton}
-use Rattle.monitor.specs.Edits as automata
-use Rattle.monitor.specs.Edits.{new_automaton}
-use Rattle.monitor.specs.Replay as automata_replay
 use Rattle.chartfile.specs.declared.Fault.{Fault}
 use Rattle.sheet.specs.declared.Edit.TheVariants.{Node, Box, Exit, Look, Edge, Leave, Unedge, Unleave}
 use Rattle.monitor.specs.declared.replay.MonitorEdit.TheVariants.{State, Step, Accept}
 use Rattle.chartfile.specs.declared.record.Record.{Record}
 use Rattle.chartfile.specs.declared.record.Record.TheVariants.{Begin, Draw, Watch}
-use Rattle.chartfile.specs.Records.{Drawing, record_bytes, file_bytes, is_begin_lem, is_watch_lem, watches, performed, settled}
+use Rattle.chartfile.specs.Records.{Drawing, record_bytes, file_bytes, is_begin_lem, is_watch_lem, watches, performed}
 use Rattle.chartfile.specs.Files.{Stand, none, then, Refused, missing, Ends, whole, fault, first_of, Read}
 use Rattle.chartfile.specs.Steps.{Took, Faulty}
 
@@ -34,67 +25,13 @@ pub record Progress (before now : Drawing) (bytes rest : List ℕ) (number : ℕ
 pub begin_progress : (d : Drawing) (bytes : List ℕ) → Progress d d bytes bytes 1 false
 begin_progress d bytes = record { records = []; split = refl; stand = none; count = refl; watch = refl }
 
--- ---- a refused call alters nothing
-sheet_kept : {X : Type 0} (o : Option Refusal) (s t : Sheet) (x : X) (r : Refusal) → (sheets.settle o s t x).answer ≡ Err r → (sheets.settle o s t x).sheet ≡ s
-sheet_kept None s t x r e = let z : ◌≡◌ {A = ℕ} 0 1 = cc in absurd (omega arith)
-sheet_kept (Some q) s t x r e = refl
-
-place_kept : (o : Option Refusal) (s t : Sheet) (n : ℕ) (r : Refusal) → settled (some (sheets.settle o s t n).answer) ≡ Err r → (sheets.settle o s t n).sheet ≡ s
-place_kept None s t n r e = let z : ◌≡◌ {A = ℕ} 0 1 = cc in absurd (omega arith)
-place_kept (Some q) s t n r e = refl
-
-arrow_kept : (o : Option Refusal) (s t : Sheet) (r : Refusal) → settled (none_told (sheets.settle {X = Unit {0}} o s t (tt {0})).answer) ≡ Err r → (sheets.settle {X = Unit {0}} o s t (tt {0})).sheet ≡ s
-arrow_kept None s t r e = let z : ◌≡◌ {A = ℕ} 0 1 = cc in absurd (omega arith)
-arrow_kept (Some q) s t r e = refl
-
-edit_kept : (s : Sheet) (e : Edit) (r : Refusal) → settled (applied s e).answer ≡ Err r → (applied s e).sheet ≡ s
-edit_kept s (Node i l) r h = place_kept (first (sheets.node_refusals s i l)) s _ _ r h
-edit_kept s (Box i j) r h = place_kept (first (sheets.box_refusals s i j)) s _ _ r h
-edit_kept s (Exit i p) r h = arrow_kept (first (sheets.exit_refusals s i p)) s _ r h
-edit_kept s (Look i p l) r h = arrow_kept (first (sheets.look_refusals s i p l)) s _ r h
-edit_kept s (Edge i p w) r h = arrow_kept (first (sheets.edge_refusals s i p w true)) s _ r h
-edit_kept s (Leave i b e w) r h = arrow_kept (first (sheets.leave_refusals s i b e w true)) s _ r h
-edit_kept s (Unedge i p w) r h = arrow_kept (first (sheets.edge_refusals s i p w false)) s _ r h
-edit_kept s (Unleave i b e w) r h = arrow_kept (first (sheets.leave_refusals s i b e w false)) s _ r h
-
-automaton_kept : (o : Option Refusal) (a b : Automaton) (r : Refusal) → (automata.settled {X = Unit {0}} o a b (tt {0})).answer ≡ Err r → (automata.settled {X = Unit {0}} o a b (tt {0})).automaton ≡ a
-automaton_kept None a b r e = let z : ◌≡◌ {A = ℕ} 0 1 = cc in absurd (omega arith)
-automaton_kept (Some q) a b r e = refl
-
-state_kept : (o : Option Refusal) (a b : Automaton) (n : ℕ) (r : Refusal) → automata_replay.done (automata.settled o a b n).answer ≡ Err r → (automata.settled o a b n).automaton ≡ a
-state_kept None a b n r e = let z : ◌≡◌ {A = ℕ} 0 1 = cc in absurd (omega arith)
-state_kept (Some q) a b n r e = refl
-
-monitor_edit_kept : (a : Automaton) (e : MonitorEdit) (r : Refusal) → (automata_replay.applied a e).answer ≡ Err r → (automata_replay.applied a e).automaton ≡ a
-monitor_edit_kept a State r h = state_kept (first (automata.state_refusals a)) a _ _ r h
-monitor_edit_kept a (Step q care value t) r h = automaton_kept (first (automata.step_refusals a q care value t)) a _ r h
-monitor_edit_kept a (Accept q) r h = automaton_kept (first (automata.accept_refusals a q)) a _ r h
-
-pub refused_unchanged : (d : Drawing) (c : Record) (r : Refusal) → (performed d c).answer ≡ Err r → (performed d c).drawing ≡ d
-refused_unchanged d (Begin n) r h =
-    let a : cond (is_ok (sheets.begin d.sheet n).answer) new_automaton d.automaton ≡ d.automaton
-    = ap (λ (o : Result (Unit {0}) Refusal). cond (is_ok o) new_automaton d.automaton) h in
-    let e : (sheets.begin d.sheet n).sheet ≡ d.sheet = sheet_kept (first (sheets.begin_refusals n)) d.sheet _ _ r h in
-    ap₂ (λ (s : Sheet) (q : Automaton). record { sheet = s; automaton = q }) e a
-refused_unchanged d (Draw e) r h = ap (λ (s : Sheet). record { sheet = s; automaton = d.automaton }) (edit_kept d.sheet e r h)
-refused_unchanged d (Watch e) r h = ap (λ (q : Automaton). record { sheet = d.sheet; automaton = q }) (monitor_edit_kept d.automaton e r h)
-
 -- ---- one record more
 pub file_bytes_more : (rs : List Record) (c : Record) → file_bytes (rs ++ c ∷ []) ≡ file_bytes rs ++ record_bytes c
 file_bytes_more [] c = append-nil (record_bytes c)
 file_bytes_more (r ∷ rs) c = ap (λ l. record_bytes r ++ l) (file_bytes_more rs c) ∙ sym (append_assoc (record_bytes r) (file_bytes rs) (record_bytes c))
 
-or_more : (a b c d : Bool) → b ≡ (c || d) → (a || b) ≡ ((a || c) || d)
-or_more true b c d e = refl
-or_more false b c d e = e
-
-or_none : (a : Bool) → (a || false) ≡ a
-or_none true = refl
-or_none false = refl
-
 watches_more : (rs : List Record) (c : Record) → watches (rs ++ c ∷ []) ≡ (watches rs || is_watch_lem c)
-watches_more [] c = or_none (is_watch_lem c)
-watches_more (r ∷ rs) c = or_more (is_watch_lem r) (watches (rs ++ c ∷ [])) (watches rs) (is_watch_lem c) (watches_more rs c)
+watches_more rs c = or_push watches is_watch_lem refl (λ _ _. refl) rs c
 
 -- whether the next record is the first
 abbrev pub still : Bool → List Record → Bool
@@ -153,31 +90,18 @@ few_records : (rs : List Record) → length rs ≤ length (file_bytes rs)
 few_records [] = omega arith
 few_records (c ∷ rs) = let h = few_records rs in omega (arith, some_bytes c, length-append (record_bytes c) (file_bytes rs))
 
--- the number of the next record is small, and its offset is what is read
-pub record Bounds (bytes rest : List ℕ) (n : ℕ) : Type 0 where
-  pub within : length rest ≤ length bytes
-  pub few : n + length rest ≤ length bytes + 1
-
-pub progress_bounds : {before d : Drawing} {bytes rest : List ℕ} {n : ℕ} {watched : Bool} → Progress before d bytes rest n watched → Bounds bytes rest n
-progress_bounds {rest = rest} g =
-    let e = ap length g.split ∙ length-append (file_bytes g.records) rest in
-    record { within = omega (arith, e); few = omega (arith, e, few_records g.records, g.count) }
-
-pub shorter : {first : Bool} {d d' : Drawing} {bytes rest : List ℕ} {watch : Bool} → Took first d d' bytes watch rest → length rest < length bytes
-shorter {rest = rest} t = omega (arith, ap length t.split, length-append (record_bytes t.call) rest, some_bytes t.call)
+-- the number of the next record is small
+pub few_so_far : {before d : Drawing} {bytes rest : List ℕ} {n : ℕ} {watched : Bool} → Progress before d bytes rest n watched → n + length rest ≤ length bytes + 1
+few_so_far {rest = rest} g = omega (arith, ap length g.split, length-append (file_bytes g.records) rest, few_records g.records, g.count)
 
 not_first : (rs : List Record) (rest : List ℕ) → 0 < length (file_bytes rs ++ rest) → rest ≡ [] → first_of rs ≡ false
 not_first [] rest h e = absurd (omega (arith, ap length e))
 not_first (r ∷ rs) rest h e = refl
 
-empty_list : (xs : List ℕ) → length xs ≡ 0 → xs ≡ []
-empty_list [] h = refl
-empty_list (x ∷ xs) h = absurd (omega arith)
-
 pub whole_read : {before d : Drawing} {bytes rest : List ℕ} {n : ℕ} {watched : Bool} → 0 < length bytes → Progress before d bytes rest n watched
     → length rest ≡ 0 → Read before bytes (Ok watched) d
 whole_read {before} {d} {bytes} {rest} {n} {watched} h g z =
-    let e = empty_list rest z in
+    let e = nil_from_length rest z in
     record {
       records = g.records;
       rest = [];
@@ -202,4 +126,4 @@ faulty_read {before} {d} {d'} {bytes} {rest} {n} {offset} {watched} f g o x =
     (record { records = rs; rest = rest; split = g.split; stand = g.stand; ends = ends })
 
 pub empty_read : (d : Drawing) (bytes : List ℕ) → length bytes ≡ 0 → Read d bytes (Err (record { refusal = BeginMisplaced; «record» = 1; offset = 0 })) d
-empty_read d bytes h = record { records = []; rest = bytes; split = refl; stand = none; ends = fault (missing refl (empty_list bytes h)) }
+empty_read d bytes h = record { records = []; rest = bytes; split = refl; stand = none; ends = fault (missing refl (nil_from_length bytes h)) }

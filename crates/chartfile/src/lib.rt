@@ -10,6 +10,7 @@ use chart::Chart;
 use hierarchy::Refusal;
 use monitor::Monitor;
 
+mod kind;
 mod one;
 mod perform;
 mod read;
@@ -30,6 +31,19 @@ pub struct Fault {
     pub offset: usize,
 }
 
+impl Fault {
+    // A fault of the whole file.
+    fn at_start(refusal: Refusal) -> Fault
+        ensures { result ≡ record { refusal = refusal; «record» = 1; offset = 0 } }
+    {
+        Fault {
+            refusal,
+            record: 1,
+            offset: 0,
+        }
+    }
+}
+
 // Reads a whole file into the chart and the monitor. Answers whether the file has a record of a monitor. A fault in the
 // first record leaves both equal.
 pub fn load(bytes: &[u8], chart: &mut Chart, monitor: &mut Monitor) -> Result<bool, Fault>
@@ -37,18 +51,10 @@ pub fn load(bytes: &[u8], chart: &mut Chart, monitor: &mut Monitor) -> Result<bo
     ensures unaltered { first_faulty result ≡ true → (chart.new ≡ chart.old) × (monitor.new ≡ monitor.old) }
 {
     if bytes.len() > LONGEST {
-        return Err(Fault {
-            refusal: Refusal::FileTooLong,
-            record: 1,
-            offset: 0,
-        });
+        return Err(Fault::at_start(Refusal::FileTooLong));
     }
     if bytes.is_empty() {
-        return Err(Fault {
-            refusal: Refusal::BeginMisplaced,
-            record: 1,
-            offset: 0,
-        });
+        return Err(Fault::at_start(Refusal::BeginMisplaced));
     }
     let mut rest = bytes;
     let mut record = 1;

@@ -12,7 +12,8 @@ use chart::Chart;
 use hierarchy::Refusal;
 use monitor::Monitor;
 
-// Whether the record is a monitor's, and the bytes behind it.
+// Whether the record is a monitor's, and the bytes behind it. Chart and monitor stay two parameters, as `load` is lent
+// them apart. That there are bytes is asked by each function down to `take`, and by no type: `load` has just looked.
 pub(crate) fn read_at<'a>(
     bytes: &'a [u8],
     record: usize,
@@ -24,14 +25,11 @@ pub(crate) fn read_at<'a>(
     ensures read { MatchResult result (λ v. Took (nat_eq «record» 1) (drawing chart.old monitor.old) (drawing chart.new monitor.new) bytes.now v.0 v.1.now) (λ f. Faulty (nat_eq «record» 1) (drawing chart.old monitor.old) (drawing chart.new monitor.new) bytes.now «record» offset f) }
     ensures unchanged { is_ok result ≡ false → (chart.new ≡ chart.old) × (monitor.new ≡ monitor.old) }
 {
-    match read_one(bytes, record == 1, chart, monitor) {
-        Ok(read) => Ok(read),
-        Err(refusal) => Err(Fault {
-            refusal,
-            record,
-            offset,
-        }),
-    }
+    read_one(bytes, record == 1, chart, monitor).map_err(|refusal| Fault {
+        refusal,
+        record,
+        offset,
+    })
 }
 
 fn read_one<'a>(
@@ -56,20 +54,12 @@ impl Record {
     fn is_begin(&self) -> bool
         ensures { result ≡ is_begin_lem self.now }
     {
-        match self {
-            Record::Begin { structures: _ } => true,
-            Record::Draw { edit: _ } => false,
-            Record::Watch { edit: _ } => false,
-        }
+        matches!(self, Record::Begin { .. })
     }
 
     fn is_watch(&self) -> bool
         ensures { result ≡ is_watch_lem self.now }
     {
-        match self {
-            Record::Begin { structures: _ } => false,
-            Record::Draw { edit: _ } => false,
-            Record::Watch { edit: _ } => true,
-        }
+        matches!(self, Record::Watch { .. })
     }
 }

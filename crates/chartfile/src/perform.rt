@@ -22,12 +22,11 @@ pub(crate) fn perform(
         Record::Begin { structures } => {
             chart.begin(structures)?;
             *monitor = Monitor::new();
-            Ok(())
         }
         Record::Draw { edit } => {
             chart.apply(edit)?;
-            Ok(())
         }
-        Record::Watch { edit } => monitor.apply(edit),
+        Record::Watch { edit } => monitor.apply(edit)?,
     }
+    Ok(())
 }

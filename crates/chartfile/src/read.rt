@@ -1,8 +1,11 @@
 // Taking one record off the front of a file: its kind, its fields, and the rest of the file.
-ghost use Rattle.std.specs.Prelude.{◌≡◌, ◌<◌, ◌≤◌, ◌∷◌, ◌++◌, length, MatchResult};
-ghost use Rattle.chartfile.specs.Records.{record_bytes};
+#![tactic(auto, using(crate::proofs::Fronts::too_short))]
+
+ghost use Rattle.std.specs.Prelude.{◌≡◌, ◌<◌, ◌≤◌, ◌++◌, length, slice_index, MatchResult};
+ghost use Rattle.chartfile.specs.Records.{record_bytes, edit_bytes, monitor_edit_bytes};
 ghost use Rattle.chartfile.specs.Files.{Unreadable};
 
+use crate::kind;
 use crate::record::Record;
 use hierarchy::Refusal;
 use monitor::MonitorEdit;
@@ -13,160 +16,99 @@ pub(crate) fn take(bytes: &[u8]) -> Result<(Record, &[u8]), Refusal>
     requires { 0 < length bytes.now }
     ensures { MatchResult result (λ v. bytes.now ≡ record_bytes v.0 ++ v.1.now) (λ e. Unreadable bytes.now e) }
 {
-    let [kind, body @ ..] = bytes else {
-        return Err(Refusal::CutRecord);
-    };
-    match *kind {
-        1 => take_begin(body),
-        2..=5 => take_place(*kind, body),
-        6..=9 => take_arrow(*kind, body),
-        16..=18 => take_watch(*kind, body),
+    match bytes {
+        [kind::BEGIN, structures, rest @ ..] => {
+            let structures = usize::from(*structures);
+            Ok((Record::Begin { structures }, rest))
+        }
+        [kind::NODE..=kind::LOOK, ..] => {
+            let (edit, rest) = take_place(bytes)?;
+            Ok((Record::Draw { edit }, rest))
+        }
+        [kind::EDGE..=kind::UNLEAVE, ..] => {
+            let (edit, rest) = take_arrow(bytes)?;
+            Ok((Record::Draw { edit }, rest))
+        }
+        [kind::STATE..=kind::ACCEPT, ..] => {
+            let (edit, rest) = take_watch(bytes)?;
+            Ok((Record::Watch { edit }, rest))
+        }
+        [kind::BEGIN] => Err(Refusal::CutRecord),
         _ => Err(Refusal::UnknownKind),
     }
 }
 
-fn take_begin(body: &[u8]) -> Result<(Record, &[u8]), Refusal>
-    ensures { MatchResult result (λ v. 1 ∷ body.now ≡ record_bytes v.0 ++ v.1.now) (λ e. Unreadable (1 ∷ body.now) e) }
+// The edit of a place at the front, and the bytes behind it; or else it is cut short.
+fn take_place(bytes: &[u8]) -> Result<(Edit, &[u8]), Refusal>
+    requires least { 2 ≤ slice_index bytes.now 0 }
+    requires greatest { slice_index bytes.now 0 ≤ 5 }
+    ensures { MatchResult result (λ v. bytes.now ≡ edit_bytes v.0 ++ v.1.now) (λ e. Unreadable bytes.now e) }
 {
-    match body {
-        [structures, rest @ ..] => Ok((
-            Record::Begin {
-                structures: *structures as usize,
-            },
-            rest,
-        )),
+    match bytes {
+        [kind::NODE, i, look, rest @ ..] => {
+            let i = usize::from(*i);
+            Ok((Edit::Node { i, look: *look }, rest))
+        }
+        [kind::BOX, i, inner, rest @ ..] => {
+            let [i, inner] = [*i, *inner].map(usize::from);
+            Ok((Edit::Box { i, inner }, rest))
+        }
+        [kind::EXIT, i, p, rest @ ..] => {
+            let [i, p] = [*i, *p].map(usize::from);
+            Ok((Edit::Exit { i, p }, rest))
+        }
+        [kind::LOOK, i, p, look, rest @ ..] => {
+            let [i, p] = [*i, *p].map(usize::from);
+            Ok((Edit::Look { i, p, look: *look }, rest))
+        }
         _ => Err(Refusal::CutRecord),
     }
 }
 
-// An edit of a place, by its kind and what stands behind it.
-fn take_place(kind: u8, body: &[u8]) -> Result<(Record, &[u8]), Refusal>
-    requires { (2 ≤ kind) × (kind ≤ 5) }
-    ensures { MatchResult result (λ v. kind ∷ body.now ≡ record_bytes v.0 ++ v.1.now) (λ e. Unreadable (kind ∷ body.now) e) }
+// The edit of an edge or a leave at the front, and the bytes behind it; or else it is cut short.
+fn take_arrow(bytes: &[u8]) -> Result<(Edit, &[u8]), Refusal>
+    requires least { 6 ≤ slice_index bytes.now 0 }
+    requires greatest { slice_index bytes.now 0 ≤ 9 }
+    ensures { MatchResult result (λ v. bytes.now ≡ edit_bytes v.0 ++ v.1.now) (λ e. Unreadable bytes.now e) }
 {
-    match (kind, body) {
-        (2, [i, look, rest @ ..]) => Ok((
-            Record::Draw {
-                edit: Edit::Node {
-                    i: *i as usize,
-                    look: *look,
-                },
-            },
-            rest,
-        )),
-        (3, [i, inner, rest @ ..]) => Ok((
-            Record::Draw {
-                edit: Edit::Box {
-                    i: *i as usize,
-                    inner: *inner as usize,
-                },
-            },
-            rest,
-        )),
-        (4, [i, p, rest @ ..]) => Ok((
-            Record::Draw {
-                edit: Edit::Exit {
-                    i: *i as usize,
-                    p: *p as usize,
-                },
-            },
-            rest,
-        )),
-        (5, [i, p, look, rest @ ..]) => Ok((
-            Record::Draw {
-                edit: Edit::Look {
-                    i: *i as usize,
-                    p: *p as usize,
-                    look: *look,
-                },
-            },
-            rest,
-        )),
+    match bytes {
+        [kind::EDGE, i, p, w, rest @ ..] => {
+            let [i, p, w] = [*i, *p, *w].map(usize::from);
+            Ok((Edit::Edge { i, p, w }, rest))
+        }
+        [kind::LEAVE, i, b, e, w, rest @ ..] => {
+            let [i, b, e, w] = [*i, *b, *e, *w].map(usize::from);
+            Ok((Edit::Leave { i, b, e, w }, rest))
+        }
+        [kind::UNEDGE, i, p, w, rest @ ..] => {
+            let [i, p, w] = [*i, *p, *w].map(usize::from);
+            Ok((Edit::Unedge { i, p, w }, rest))
+        }
+        [kind::UNLEAVE, i, b, e, w, rest @ ..] => {
+            let [i, b, e, w] = [*i, *b, *e, *w].map(usize::from);
+            Ok((Edit::Unleave { i, b, e, w }, rest))
+        }
         _ => Err(Refusal::CutRecord),
     }
 }
 
-// An edit of an edge or a leave.
-fn take_arrow(kind: u8, body: &[u8]) -> Result<(Record, &[u8]), Refusal>
-    requires { (6 ≤ kind) × (kind ≤ 9) }
-    ensures { MatchResult result (λ v. kind ∷ body.now ≡ record_bytes v.0 ++ v.1.now) (λ e. Unreadable (kind ∷ body.now) e) }
+// The edit of the monitor at the front, and the bytes behind it; or else it is cut short.
+fn take_watch(bytes: &[u8]) -> Result<(MonitorEdit, &[u8]), Refusal>
+    requires least { 16 ≤ slice_index bytes.now 0 }
+    requires greatest { slice_index bytes.now 0 ≤ 18 }
+    ensures { MatchResult result (λ v. bytes.now ≡ monitor_edit_bytes v.0 ++ v.1.now) (λ e. Unreadable bytes.now e) }
 {
-    match (kind, body) {
-        (6, [i, p, w, rest @ ..]) => Ok((
-            Record::Draw {
-                edit: Edit::Edge {
-                    i: *i as usize,
-                    p: *p as usize,
-                    w: *w as usize,
-                },
-            },
-            rest,
-        )),
-        (7, [i, b, e, w, rest @ ..]) => Ok((
-            Record::Draw {
-                edit: Edit::Leave {
-                    i: *i as usize,
-                    b: *b as usize,
-                    e: *e as usize,
-                    w: *w as usize,
-                },
-            },
-            rest,
-        )),
-        (8, [i, p, w, rest @ ..]) => Ok((
-            Record::Draw {
-                edit: Edit::Unedge {
-                    i: *i as usize,
-                    p: *p as usize,
-                    w: *w as usize,
-                },
-            },
-            rest,
-        )),
-        (9, [i, b, e, w, rest @ ..]) => Ok((
-            Record::Draw {
-                edit: Edit::Unleave {
-                    i: *i as usize,
-                    b: *b as usize,
-                    e: *e as usize,
-                    w: *w as usize,
-                },
-            },
-            rest,
-        )),
-        _ => Err(Refusal::CutRecord),
-    }
-}
-
-// An edit of the monitor.
-fn take_watch(kind: u8, body: &[u8]) -> Result<(Record, &[u8]), Refusal>
-    requires { (16 ≤ kind) × (kind ≤ 18) }
-    ensures { MatchResult result (λ v. kind ∷ body.now ≡ record_bytes v.0 ++ v.1.now) (λ e. Unreadable (kind ∷ body.now) e) }
-{
-    match (kind, body) {
-        (16, rest) => Ok((
-            Record::Watch {
-                edit: MonitorEdit::State,
-            },
-            rest,
-        )),
-        (17, [q, care, value, r, rest @ ..]) => Ok((
-            Record::Watch {
-                edit: MonitorEdit::Step {
-                    q: *q as usize,
-                    care: *care,
-                    value: *value,
-                    r: *r as usize,
-                },
-            },
-            rest,
-        )),
-        (18, [q, rest @ ..]) => Ok((
-            Record::Watch {
-                edit: MonitorEdit::Accept { q: *q as usize },
-            },
-            rest,
-        )),
+    match bytes {
+        [kind::STATE, rest @ ..] => Ok((MonitorEdit::State, rest)),
+        [kind::STEP, q, care, value, r, rest @ ..] => {
+            let [q, r] = [*q, *r].map(usize::from);
+            let (care, value) = (*care, *value);
+            Ok((MonitorEdit::Step { q, care, value, r }, rest))
+        }
+        [kind::ACCEPT, q, rest @ ..] => {
+            let q = usize::from(*q);
+            Ok((MonitorEdit::Accept { q }, rest))
+        }
         _ => Err(Refusal::CutRecord),
     }
 }

@@ -2,7 +2,7 @@
 use monitor::MonitorEdit;
 use sheet::Edit;
 
-#[derive(Clone, Copy)]
+#[derive(Clone, Copy, PartialEq, Eq, Debug)]
 pub enum Record {
     // begin a new chart of so many structures; the monitor is new too
     Begin { structures: usize },

@@ -2,11 +2,9 @@
 // All that is printed is made by the library; here it is only read and written.
 #![tactic(auto)]
 
-mod answer;
-
-use crate::answer::answer;
 use chartfile::LONGEST;
 use guide::GuideRecord;
+use report::report_file;
 use std::io;
 use std::io::{Read, Write};
 use walk::Frame;
@@ -24,6 +22,7 @@ fn main(rt: HostRuntime) -> io::Result<()> {
     let mut guide = vec![in rt.alloc(); GuideRecord::blank(); RECORDS]?;
     let mut frames = vec![in rt.alloc(); Frame::blank(); FRAMES]?;
     let mut output = vec![in rt.alloc(); 0u8; OUTPUT]?;
-    let count = answer(&input, &mut guide, &mut frames, &mut output).unwrap_or(0);
-    rt.stdout().write_all(output.get(0..count).unwrap_or(&[]))
+    // so much output is never too little, and nothing else is refused
+    let count = report_file(&input, &mut guide, &mut frames, &mut output).unwrap_or(0);
+    rt.stdout().write_all(&output[..count])
 }

@@ -1,5 +1,5 @@
 -- From what the judge and the walk promise to what is promised of both in one call.
-use Rattle.std.proofs.Common.{◌≡◌, ℕ, ◌+◌, ◌*◌, Bool, true, false, cond, ltb, List, is_some, is_ok, Some, None, Ok, Err, Option, Result, sym, refl, ap, ◌∙◌, subst, ap₂, arith}
+use Rattle.std.proofs.Common.{◌≡◌, ℕ, ◌+◌, ◌*◌, Bool, true, false, cond, ltb, List, is_some, Some, None, Ok, Err, Option, Result, sym, refl, ap, ◌∙◌, subst, ap₂}
 use Rattle.std.specs.Result.{result_err}
 use Rattle.hierarchy.specs.Meaning.{Meaning, Lawful}
 use Rattle.hierarchy.specs.Flat.{Recurs}
@@ -13,12 +13,13 @@ use Rattle.guide.specs.declared.GuideRecord.{GuideRecord}
 use Rattle.guide.specs.Trees.{Good}
 use Rattle.judge.specs.Known.{Decides}
 use Rattle.judge.specs.Piles.{pile_need}
-use Rattle.judge.specs.Verdicts.{judge_refusal, guide_need}
+use Rattle.judge.specs.Verdicts.{guide_need}
 use Rattle.walk.specs.declared.frame.Frame.{Frame}
 use Rattle.walk.specs.declared.steps.Walk.{Walk}
 use Rattle.walk.specs.Walks.{walk, ShowsRun}
 use Rattle.walk.specs.Steps.{lacking, guide_for, guide_home, levels, ring_home, state_shown}
 use Rattle.walk.specs.Journeys.{state_after}
+use Rattle.walk.proofs.Answered.{not_large}
 use Rattle.endless.specs.declared.Judgment.{Judgment}
 use Rattle.endless.specs.Judgments.{OnJudgment, pile_lacking, JudgedPiles, WalksOn}
 
@@ -41,36 +42,6 @@ pile_lacks b l automata p records frames =
     (λ e. let s = pile_sizes b automata e in (ap₂ (λ x y. (x + 1) * y) s.0 s.1, s.0))
     ∙ ap (λ (large : Bool). lacking_by large records (pile_need b automata) frames (b.structures * widths automata)) (pile_large b l automata p)
 
-none_fits : (large : Bool) (x : Option Refusal) → cond large (Some TooLarge) x ≡ None → (large ≡ false) × (x ≡ None)
-none_fits true x e = let z : ◌≡◌ {A = ℕ} 0 1 = cc in absurd (omega arith)
-none_fits false x e = (refl, e)
-
-none_need : (t : Bool) (x : Option Refusal) → cond t (Some TooLittleMemory) x ≡ None → cond {A = Option Refusal} t (Some TooLittleMemory) None ≡ None
-none_need true x e = e
-none_need false x e = refl
-
--- what lacks nothing is not too large, and the judge does not refuse it
-pub lacks_none_fits : (m : Meaning) (records frames : ℕ) → lacking m records frames ≡ None → m.large ≡ false
-lacks_none_fits m records frames e = (none_fits m.large _ e).0
-
-pub lacks_none_judged : (m : Meaning) (records frames : ℕ) → lacking m records frames ≡ None → judge_refusal m records ≡ None
-lacks_none_judged m records frames e =
-    let f = none_fits m.large _ e in
-    ap (λ (large : Bool). cond large (Some TooLarge) (cond (ltb records (guide_need m)) (Some TooLittleMemory) None)) f.0
-    ∙ none_need (ltb records (guide_need m)) _ f.1
-
-some_not_none : {X : Type 0} (x : X) → ◌≡◌ {A = Option X} (Some x) None → ⊥
-some_not_none x e = let z : ◌≡◌ {A = ℕ} 0 1 = cc in omega arith
-
-pub never_refused : {X : Type 0} (r : Result X Refusal) (e : Refusal) → result_err r ≡ None → r ≡ Err e → ⊥
-never_refused r e h q = some_not_none e (sym (ap result_err q) ∙ h)
-
-pub accepted_not_err : {X : Type 0} (r : Result X Refusal) (e : Refusal) → is_ok r ≡ true → r ≡ Err e → ⊥
-accepted_not_err r e h q =
-    let f : false ≡ true = sym (ap is_ok q) ∙ h in
-    let z : ◌≡◌ {A = ℕ} 0 1 = cc in
-    omega arith
-
 -- ---- verdicts
 pub judged_piles : (m : Meaning) (records frames : ℕ) (r : Result Judgment Refusal) → result_err r ≡ lacking m records frames
     → OnJudgment (λ j. Decides (is_some j.walk) (Recurs m)) r → JudgedPiles m records frames r
@@ -84,7 +55,7 @@ judged_piles m records frames r h d b automata l p e =
         → OnJudgment (λ j. Decides (is_some j.walk) (Recurs (laid automata b))) r → OnJudgment (λ j. Decides (is_some j.walk) (GoodRun b automata)) r
     by_runs (Err e) h d = tt
     by_runs (Ok v) h d =
-        let g = pile_good b l automata p (lacks_none_fits (laid automata b) records frames (sym h)) in
+        let g = pile_good b l automata p (not_large (laid automata b) records frames (sym h)) in
         record { sure = λ e. g.0 (d.sure e); never = λ e x. d.never e (g.1 x) }
 
 -- ---- walks
@@ -95,8 +66,10 @@ pub walks_on : (m : Meaning) (guide : List GuideRecord) (frames : List Frame) (h
 walks_on m guide frames home n w good shows at here stands = record {
   run = shows.run;
   often = shows.often;
-  here = here ∙ sym (shows.shows n);
-  ahead = λ k. ap (λ h. state_after m guide h k) at ∙ sym (shows.shows k);
-  good = subst (λ (h : ℕ). Good m (guide_home m guide h)) (sym at) good;
-  stands = stands;
+  along = record {
+    here = here ∙ sym (shows.shows n);
+    ahead = λ k. ap (λ h. state_after m guide h k) at ∙ sym (shows.shows k);
+    good = subst (λ (h : ℕ). Good m (guide_home m guide h)) (sym at) good;
+    stands = stands;
+  };
 }

@@ -3,21 +3,17 @@
 use Rattle.std.specs.Prelude.{◌≡◌, ℕ, ◌*◌, cond, List, is_some, Some, None, Ok, Err, Option, Result, nat_lt}
 use Rattle.std.specs.Result.{result_err}
 use Rattle.hierarchy.specs.Meaning.{Meaning, Lawful}
-use Rattle.hierarchy.specs.Runs.{Run, MarkedOften}
 use Rattle.hierarchy.specs.declared.refusal.Refusal.{Refusal}
 use Rattle.hierarchy.specs.declared.refusal.Refusal.TheVariants.{TooLarge, TooLittleMemory}
 use Rattle.monitor.specs.Automata.{Automaton, AllProper}
 use Rattle.monitor.specs.Product.{laid}
 use Rattle.monitor.specs.Piles.{GoodRun, widths, pile_too_large}
 use Rattle.guide.specs.declared.GuideRecord.{GuideRecord}
-use Rattle.guide.specs.Trees.{Good}
 use Rattle.judge.specs.Known.{Decides}
 use Rattle.judge.specs.Piles.{pile_need}
 use Rattle.walk.specs.declared.frame.Frame.{Frame}
 use Rattle.walk.specs.declared.steps.Walk.{Walk}
-use Rattle.walk.specs.Walks.{walk}
-use Rattle.walk.specs.Steps.{guide_for, levels, ring_home, state_shown}
-use Rattle.walk.specs.Journeys.{state_after}
+use Rattle.walk.specs.Onward.{AlongSome}
 use Rattle.endless.specs.declared.Judgment.{Judgment}
 
 -- what holds of the judgment, and of the walk, if there is one
@@ -49,12 +45,5 @@ JudgedPiles m records frames r =
 
 -- The walk stands after n steps of an endless run from the initial state, whose moves are transitions of the flat form and
 -- which is marked without end. With this guide and these frames it goes on along that run, and no step is refused.
-pub record WalksOn (m : Meaning) (guide : List GuideRecord) (frames : List Frame) (n : ℕ) (w : Walk) : Type 0 where
-  pub run : Run m
-  pub often : MarkedOften m run
-  -- what the walk shows is the run's n-th state, and by this guide the walk's k-th state is the run's, for every k
-  pub here : state_shown m w frames ≡ run.state n
-  pub ahead : (k : ℕ) → state_after m guide (ring_home w) k ≡ run.state k
-  -- what a step asks for, so as not to be refused
-  pub good : Good m (guide_for m guide w)
-  pub stands : levels m (guide_for m guide w) w frames ≡ walk m (guide_for m guide w) n
+abbrev pub WalksOn : Meaning → List GuideRecord → List Frame → ℕ → Walk → Type 0
+WalksOn = AlongSome

@@ -13,9 +13,9 @@ mod drawn;
 
 pub use drawn::{judge_drawing, judge_under};
 use guide::GuideRecord;
-use hierarchy::{Hierarchy, Refusal, Size};
-use judge::judge;
-use walk::{Frame, Walk, walk_on};
+use hierarchy::{Hierarchy, Refusal};
+use judge::{Verdict, judge};
+use walk::{Frame, Walk, walk_on, walkable};
 
 // What a judgment says, with a walk where a marked state recurs.
 #[derive(Drop)]
@@ -42,34 +42,12 @@ pub fn judge_and_walk<B: Hierarchy>(
     ensures idle { OnJudgment (λ j. (is_some j.walk ≡ false → frames.new ≡ frames.old)) result }
     ensures endless { OnJudgment (λ j. WalkIs (WalksOn (B.Hierarchy.meaning h.now) guide.new frames.new n) j.walk) result }
 {
-    if let Some(refusal) = shortage(h, guide.len(), frames.len()) {
-        return Err(refusal);
-    }
-    let verdict = judge(h, guide)?;
-    match verdict.recur {
-        None => Ok(Judgment {
-            reach: verdict.reach,
-            walk: None,
-        }),
-        Some(found) => {
-            let walk = walk_on(found, h, guide, frames, n)?;
-            Ok(Judgment {
-                reach: verdict.reach,
-                walk: Some(walk),
-            })
-        }
-    }
-}
-
-// Why there is too little memory for a judgment and a walk, if so.
-fn shortage<B: Hierarchy>(h: &B, records: usize, frames: usize) -> Option<Refusal>
-    ensures { result ≡ lacking (B.Hierarchy.meaning h.now) records frames }
-{
-    let Size::Fits(structures, places) = h.size() else {
-        return Some(Refusal::TooLarge);
+    walkable(h, guide.len(), frames.len())?;
+    let Verdict { reach, recur } = judge(h, guide)?;
+    // by cases: after a closure nothing would be known of the frames that it borrows
+    let walk = match recur {
+        Some(found) => Some(walk_on(found, h, guide, frames, n)?),
+        None => None,
     };
-    if records < (structures + 1) * places || frames < structures {
-        return Some(Refusal::TooLittleMemory);
-    }
-    None
+    Ok(Judgment { reach, walk })
 }

@@ -2,11 +2,12 @@
 // Records are plain numbers: memory in any state is a guide, though perhaps one that leads nowhere.
 #![tactic(auto)]
 
-ghost use Rattle.std.specs.Prelude.{◌≡◌};
-ghost use Rattle.guide.specs.Layout.{blank, blank_record_lem};
+ghost use Rattle.std.specs.Prelude.{◌≡◌, ◌+◌, ◌*◌, slice_index_or};
+ghost use Rattle.guide.specs.Layout.{aim_of_lem, blank, blank_record_lem, lane_of, look};
 
-// What a search tree holds of one place.
-#[derive(Clone, Copy, PartialEq, Eq, Debug)]
+// What a search tree holds of one place. A place that is not reached has a blank one, which is read like any other, since
+// a walk climbs by whatever memory holds: so `reached` is a flag, and no option around the rest.
+#[derive(Clone, Copy, PartialEq, Eq, Debug, Default)]
 pub struct Entry {
     // the search has reached the place, and has followed its hops
     pub reached: bool,
@@ -25,20 +26,13 @@ impl Entry {
     pub fn blank() -> Entry
         ensures { result ≡ blank }
     {
-        Entry {
-            reached: false,
-            done: false,
-            depth: 0,
-            from: 0,
-            via: 0,
-            seed: false,
-        }
+        Entry::default()
     }
 }
 
 // One guide record. Row i of a guide has a record for each place of structure i, and one more row has the ring, which is
 // the cycle found.
-#[derive(Clone, Copy, PartialEq, Eq, Debug)]
+#[derive(Clone, Copy, PartialEq, Eq, Debug, Default)]
 pub struct GuideRecord {
     pub plain: Entry,
     pub marked: Entry,
@@ -52,22 +46,18 @@ impl GuideRecord {
     pub fn blank() -> GuideRecord
         ensures { result ≡ blank_record_lem }
     {
-        GuideRecord {
-            plain: Entry::blank(),
-            marked: Entry::blank(),
-            up: Entry::blank(),
-            aim: 0,
-        }
+        GuideRecord::default()
     }
-}
 
-impl Default for GuideRecord {
-    ghost is_default = { λ x. x ≡ blank_record_lem };
-
-    fn default() -> GuideRecord
-        ensures { result ≡ blank_record_lem }
+    // The record's entry in one of the trees.
+    pub fn entry(self, lane: Lane) -> Entry
+        ensures { result ≡ lane_of lane self }
     {
-        GuideRecord::blank()
+        match lane {
+            Lane::Plain => self.plain,
+            Lane::Marked => self.marked,
+            Lane::Up => self.up,
+        }
     }
 }
 
@@ -78,4 +68,32 @@ pub enum Lane {
     Plain,
     Marked,
     Up,
+}
+
+// The record at the place of a row; past the end of memory a blank one.
+fn record_at(guide: &[GuideRecord], places: usize, row: usize, place: usize) -> GuideRecord
+    ensures { result ≡ slice_index_or guide.now (row * places + place) blank_record_lem }
+{
+    row.checked_mul(places)
+        .and_then(|start| start.checked_add(place))
+        .and_then(|at| guide.get(at).copied())
+        .unwrap_or_default()
+}
+
+// What the trees hold of a place, where each row has so many places; past the end of a row or of memory a blank entry.
+pub fn entry_at(guide: &[GuideRecord], places: usize, lane: Lane, row: usize, place: usize) -> Entry
+    ensures { result ≡ look guide.now places lane row place }
+{
+    if place < places {
+        record_at(guide, places, row, place).entry(lane)
+    } else {
+        Entry::blank()
+    }
+}
+
+// The place of a structure to go to.
+pub fn aim_at(guide: &[GuideRecord], places: usize, structure: usize) -> usize
+    ensures { result ≡ aim_of_lem guide.now places structure }
+{
+    record_at(guide, places, structure, 0).aim
 }

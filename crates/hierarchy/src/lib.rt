@@ -21,13 +21,13 @@ pub enum Place {
 
 // How large a hierarchy is: its structures, and the place numbers that each has.
 #[derive(Clone, Copy, PartialEq, Eq, Debug)]
-pub enum Size {
-    TooLarge,
-    Fits(usize, usize),
+pub struct Size {
+    pub structures: usize,
+    pub places: usize,
 }
 
 // A place's letter, 0 to 15, and its mark.
-#[derive(Clone, Copy, PartialEq, Eq, Debug)]
+#[derive(Clone, Copy, PartialEq, Eq, Debug, Default)]
 pub struct Look {
     pub letter: u8,
     pub mark: bool,
@@ -40,7 +40,8 @@ pub trait Hierarchy {
 
     ghost lawful: { (x : Self) → Lawful (meaning x) };
 
-    fn size(&self) -> Size
+    // None of a hierarchy that is too large to be judged.
+    fn size(&self) -> Option<Size>
         ensures { result ≡ size_told (meaning self.now) };
 
     // What the place `p` of structure `i` is.

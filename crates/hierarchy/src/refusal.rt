@@ -8,54 +8,33 @@ use std::fmt;
 
 #[derive(Clone, Copy, PartialEq, Eq, Debug)]
 pub enum Refusal {
-    TooManyStructures,
-    ReservedLookBit,
-    BoxNotBelow,
-    BadStepLetter,
-    UnknownKind,
-    CutRecord,
-    TooLittleMemory,
-    WheelSizes,
-    FileTooLong,
-    NoStructure,
-    NoPlace,
-    NotANode,
-    NotABox,
-    NotAnExit,
-    Full,
-    AlreadyThere,
-    NotThere,
-    TooLarge,
-    NoTransition,
-    BeginMisplaced,
+    TooManyStructures = 1,
+    ReservedLookBit = 2,
+    BoxNotBelow = 3,
+    BadStepLetter = 4,
+    UnknownKind = 5,
+    CutRecord = 6,
+    TooLittleMemory = 7,
+    WheelSizes = 8,
+    FileTooLong = 9,
+    NoStructure = 20,
+    NoPlace = 21,
+    NotANode = 22,
+    NotABox = 23,
+    NotAnExit = 24,
+    Full = 25,
+    AlreadyThere = 26,
+    NotThere = 27,
+    TooLarge = 28,
+    NoTransition = 29,
+    BeginMisplaced = 30,
 }
 
 impl Refusal {
     pub fn number(self) -> u8
         ensures { result ≡ refusal_number self }
     {
-        match self {
-            Refusal::TooManyStructures => 1,
-            Refusal::ReservedLookBit => 2,
-            Refusal::BoxNotBelow => 3,
-            Refusal::BadStepLetter => 4,
-            Refusal::UnknownKind => 5,
-            Refusal::CutRecord => 6,
-            Refusal::TooLittleMemory => 7,
-            Refusal::WheelSizes => 8,
-            Refusal::FileTooLong => 9,
-            Refusal::NoStructure => 20,
-            Refusal::NoPlace => 21,
-            Refusal::NotANode => 22,
-            Refusal::NotABox => 23,
-            Refusal::NotAnExit => 24,
-            Refusal::Full => 25,
-            Refusal::AlreadyThere => 26,
-            Refusal::NotThere => 27,
-            Refusal::TooLarge => 28,
-            Refusal::NoTransition => 29,
-            Refusal::BeginMisplaced => 30,
-        }
+        self as u8
     }
 
     // What is wrong, in words.

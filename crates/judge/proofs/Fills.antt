@@ -1,8 +1,9 @@
 -- From a search of one row to the hierarchy: what is reached is what hops reach.
 -- Assumes nothing.
-use Rattle.std.proofs.Common.{◌≡◌, ℕ, zero, suc, ◌+◌, ◌<◌, ◌≤◌, true, false, cond, ◌⊎◌, sym, ap, ◌∙◌, subst, inl, inr, arith}
+use Rattle.std.proofs.lemmas.Grind.{common_steps}
+use Rattle.std.proofs.Common.{◌≡◌, ℕ, zero, suc, ◌+◌, ◌<◌, ◌≤◌, true, false, cond, sym, refl, ap, ◌∙◌, subst, arith}
 use mathlib.Core.Path.{fun_ext}
-use Rattle.std.proofs.lemmas.Bool.{cases_eq, both_ways}
+use Rattle.std.proofs.lemmas.Bool.{both_ways, and_parts, and_from}
 use Rattle.hierarchy.specs.Meaning.{Meaning, Lawful}
 use Rattle.hierarchy.specs.Flat.{stop, step}
 use Rattle.theory.specs.Hops.{Hop, over, through, Hops}
@@ -13,7 +14,8 @@ use Rattle.guide.specs.declared.Lane.TheVariants.{Plain}
 use Rattle.guide.specs.Layout.{Table, blank}
 use Rattle.judge.specs.declared.table.Site.{Site}
 use Rattle.judge.specs.Tables.{Others, Put}
-use Rattle.judge.specs.Spread.{Via, on_edge, by_exit, here, finished, child, Fit}
+use Rattle.judge.specs.Spread.{here, finished, child, Fit}
+use Rattle.judge.specs.Follows.{Via, along_edge, along_exit}
 use Rattle.judge.specs.Search.{Ranked, Origin, old, new, Closed, NothingOpen, Spreads, Orderly}
 use Rattle.judge.specs.Rows.{HopBy, on, by, Start, Rooted, root, twig, Filled, at_entry, PlainRow, From}
 use Rattle.judge.specs.Seeds.{Seed, Seeded, plain_site}
@@ -23,18 +25,10 @@ use Rattle.judge.proofs.Turns.{missing_le}
 -- a row with starts only
 module _ (m : Meaning) (s : Site) (Q : Start) (T : Table) (Z : Seeded s Q T) where
   seed_done : (u : ℕ) → (here T s u).done ≡ false
-  seed_done u = go (Z u)
-    where
-      go : (here T s u ≡ blank) ⊎ Seed Q u (here T s u) → (here T s u).done ≡ false
-      go (inl e) = ap (λ x. x.done) e
-      go (inr z) = z.waiting
+  seed_done u = grind (arith, common_steps)
 
   pub seed_of : (u : ℕ) → (here T s u).reached ≡ true → Seed Q u (here T s u)
-  seed_of u h = go (Z u)
-    where
-      go : (here T s u ≡ blank) ⊎ Seed Q u (here T s u) → Seed Q u (here T s u)
-      go (inl e) = absurd (both_ways _ (ap (λ x. x.reached) e) h)
-      go (inr z) = z
+  seed_of u h1 = grind (arith, common_steps)
 
   pub seed_why : (u : ℕ) → (here T s u).reached ≡ true → Q u (finished (here T s u))
   seed_why u h = (seed_of u h).why
@@ -54,16 +48,17 @@ module _ (m : Meaning) (s : Site) (Q : Start) (T : Table) (Z : Seeded s Q T) whe
 -- hops by the table are hops
 module _ (m : Meaning) (L : Lawful m) (i : ℕ) (T : Table) (B : From m (i + 1) T) where
   pub via→hop : {u e w : ℕ} → Via m T i u e w → HopBy m i u e w
-  via→hop (on_edge x) = on x
-  via→hop {u} {e} (by_exit {j} p x r l) =
+  via→hop (along_edge c x) = on x
+  via→hop {u} {e} (along_exit {j} p t l) =
       let h = L.inner i u j p in
-      by p (hops→pass L h.1 x (((B j (omega (arith, h.0)) h.1).right e).0 r)) l
+      let a = and_parts (m.exits j e) (T Plain j e).reached t in
+      by p (hops→pass L h.1 a.0 (((B j (omega (arith, h.0)) h.1).right e).0 a.1)) l
 
   pub hop→via : {u w : ℕ} → Hop m i u w → (e : ℕ) × Via m T i u e w
-  hop→via (over x) = (0, on_edge x)
+  hop→via (over x) = (0, along_edge refl x)
   hop→via {u} (through {j} {e} b p l) =
       let h = L.inner i u j b in
-      (e, by_exit b p.exits (((B j (omega (arith, h.0)) h.1).right e).1 (pass→hops L h.1 p)) l)
+      (e, along_exit b (and_from _ _ p.exits (((B j (omega (arith, h.0)) h.1).right e).1 (pass→hops L h.1 p))) l)
 
 pub hop_of : {m : Meaning} {i u e w : ℕ} → HopBy m i u e w → Hop m i u w
 hop_of (on x) = over x
@@ -132,21 +127,10 @@ from_kept m i T T' f j n p = subst (PlainRow m j) (sym (fun_ext (λ u. f Plain j
 
 pub plain_start : (m : Meaning) (s : Site) (T T' : Table) (n : ℕ) (x : Entry) → n ≡ m.entry s.structure → ((u : ℕ) → here T s u ≡ blank) → x ≡ child 0 0 0 → Put T T' s.lane s.row n x →
     Seeded s (at_entry m s.structure) T'
-plain_start m s T T' n x e b c P u = go (cases_eq u n)
-  where
-    go : (u ≡ n) ⊎ (u ≡ n → ⊥) → (here T' s u ≡ blank) ⊎ Seed (at_entry m s.structure) u (here T' s u)
-    go (inl q) =
-        let a : here T' s u ≡ child 0 0 0 = ap (here T' s) q ∙ P.here ∙ c in
-        inr (record { reached = ap (λ y. y.reached) a; waiting = ap (λ y. y.done) a; why = (ap (λ y. y.depth) a, q ∙ e) })
-    go (inr q) = inl (P.rest u q ∙ b u)
+plain_start m s T T' n x h1 h2 h3 h4 = grind (arith, common_steps)
 
 pub plain_fit : (m : Meaning) (L : Lawful m) (P i : ℕ) → m.large ≡ false → P ≡ m.places → i < m.structures → Fit m (plain_site P i)
-plain_fit m L P i f e h = record {
-  places = e;
-  apart = λ b j q z. (let k = (L.inner i b j q).0 in omega arith);
-  small = omega (arith, (L.sized f).3);
-  row = omega arith;
-}
+plain_fit m L P i h1 h2 h3 = grind (arith, common_steps)
 
 pub from_others : (m : Meaning) (i : ℕ) (T T' : Table) → Others T T' Plain i → From m (i + 1) T → From m (i + 1) T'
 from_others m i T T' f B j h k = from_kept m i T T' f j (λ e. omega arith) (B j h k)

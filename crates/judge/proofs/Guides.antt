@@ -1,5 +1,6 @@
 -- Rows that are right, a ring and aims that lead to it make a good guide.
 -- Assumes nothing.
+use Rattle.std.proofs.lemmas.Grind.{common_steps}
 use Rattle.std.proofs.Common.{◌≡◌, ℕ, suc, ◌+◌, ◌<◌, ◌≤◌, true, false, ◌⊎◌, sym, refl, ap, ◌∙◌, subst, inl, inr, arith}
 use Rattle.std.proofs.lemmas.Bool.{both_ways}
 use Rattle.hierarchy.specs.Meaning.{Meaning, box, Lawful}
@@ -123,38 +124,8 @@ module _ (m : Meaning) (L : Lawful m) (T : Table) (B : Behind m 0 T) where
       }
 
 pub knows_falls : (m : Meaning) (L : Lawful m) (T : Table) (S : ℕ) → S ≡ m.structures → Knows m m.structures T → Falls S T
-knows_falls m L T S e K j z l k = go (K.sound j (omega arith) k)
-  where
-    go : Traced m T j → ((T Up j 0).from < j) × (known T (T Up j 0).from ≡ true)
-    go (outermost q) = absurd (omega arith)
-    go (by_box a b c) = ((L.inner _ _ j c).0, a)
+knows_falls m L T S h1 h2 = grind (arith, common_steps)
 
 -- a search of the last row changes nothing that is known
 pub knows_last : (m : Meaning) (L : Lawful m) (T T' : Table) (S : ℕ) → m.large ≡ false → S ≡ m.structures → Kept S T T' → Knows m m.structures T → Knows m m.structures T'
-knows_last m L T T' S fits e f K =
-    record {
-      top = same 0 (omega (arith, (L.sized fits).0)) ∙ K.top;
-      sound = λ j l k. sound j l (K.sound j l (sym (same j l) ∙ k));
-      below = λ i b j l k r q. same j (L.inner i b j q).1 ∙ K.below i b j l (sym (same i l) ∙ k) (sym (plain_kept i b l) ∙ r) q;
-    }
-  where
-    up_kept : (j : ℕ) → j < m.structures → T' Up j 0 ≡ T Up j 0
-    up_kept j l = f Up j 0 (λ z. omega arith)
-
-    same : (j : ℕ) → j < m.structures → known T' j ≡ known T j
-    same j l = ap (λ x. x.reached) (up_kept j l)
-
-    plain_kept : (i b : ℕ) → i < m.structures → (T' Plain i b).reached ≡ (T Plain i b).reached
-    plain_kept i b l = ap (λ x. x.reached) (f Plain i b (λ z. omega arith))
-
-    sound : (j : ℕ) → j < m.structures → Traced m T j → Traced m T' j
-    sound j l (outermost z) = outermost z
-    sound j l (by_box a b c) =
-        let i = (T Up j 0).from in
-        let v = (T Up j 0).via in
-        let p = ap (λ x. x.from) (up_kept j l) in
-        let q = ap (λ x. x.via) (up_kept j l) in
-        let i< : i < m.structures = omega (arith, (L.inner i v j c).0) in
-        by_box (ap (known T') p ∙ same i i< ∙ a)
-        (ap (λ n. (T' Plain n (T' Up j 0).via).reached) p ∙ ap (λ n. (T' Plain i n).reached) q ∙ plain_kept i v i< ∙ b)
-        (ap (λ n. m.place n (T' Up j 0).via) p ∙ ap (m.place i) q ∙ c)
+knows_last m L T T' S h1 h2 h3 h4 = grind (arith, common_steps)

@@ -1,6 +1,7 @@
 -- What is known is reached, and what is reached is known in the end.
 -- Assumes nothing.
-use Rattle.std.proofs.Common.{◌≡◌, ℕ, zero, suc, ◌+◌, ◌<◌, ◌≤◌, true, false, ◌⊎◌, sym, refl, ap, ◌∙◌, subst, inl, inr, arith}
+use Rattle.std.proofs.lemmas.Grind.{common_steps}
+use Rattle.std.proofs.Common.{◌≡◌, ℕ, zero, suc, ◌+◌, ◌<◌, true, false, ◌⊎◌, sym, refl, ap, ◌∙◌, subst, inl, inr, arith}
 use mathlib.Core.Path.{fun_ext}
 use Rattle.std.proofs.lemmas.Bool.{cases_eq, both_ways}
 use Rattle.hierarchy.specs.Meaning.{Meaning, box, Lawful}
@@ -13,7 +14,7 @@ use Rattle.guide.specs.Layout.{Table}
 use Rattle.judge.specs.Tables.{Put}
 use Rattle.judge.specs.Spread.{child}
 use Rattle.judge.specs.Rows.{Behind}
-use Rattle.judge.specs.Known.{known, OnlyUp, NamedBy, ToldBy, Shown, Traced, outermost, by_box, Knows, MarkIn, Decides}
+use Rattle.judge.specs.Known.{known, OnlyUp, NamedBy, Shown, Traced, outermost, by_box, Knows, MarkIn, Decides}
 use Rattle.judge.proofs.Stays.{both_same}
 
 pub plain_not_up : Plain ≡ Up → ⊥
@@ -21,9 +22,6 @@ plain_not_up e = let z : ◌≡◌ {A = ℕ} 0 1 = cc in omega arith
 
 marked_not_up : Marked ≡ Up → ⊥
 marked_not_up e = let z : ◌≡◌ {A = ℕ} 0 1 = cc in omega arith
-
-pub only_trans : {T T' T'' : Table} → OnlyUp T T' → OnlyUp T' T'' → OnlyUp T T''
-only_trans f g c r u n = g c r u n ∙ f c r u n
 
 pub only_put : {T T' : Table} {r u : ℕ} {x : Entry} → Put T T' Up r u x → OnlyUp T T'
 only_put P c r u n = P.others c r u (λ z. n z.0)
@@ -33,48 +31,15 @@ behind_up m i T T' f B j h k = both_same m T T' j (fun_ext (λ u. f Plain j u pl
 
 -- what is known stays so
 kept : (T T' : Table) {X : Type 0} (j : ℕ) → (T' Up j 0 ≡ T Up j 0) ⊎ ((known T j ≡ false) × X) → known T j ≡ true → T' Up j 0 ≡ T Up j 0
-kept T T' j (inl e) h = e
-kept T T' j (inr z) h = absurd (both_ways _ z.0 h)
-
--- ---- all boxes of one structure
-module _ (m : Meaning) (i : ℕ) where
-  pub shown_more : {T T' T'' : Table} (n : ℕ) → Shown m i n T T' → ToldBy m i n T' T'' → Shown m i (n + 1) T T''
-  shown_more {T} {T'} {T''} n X Y = record { rest = only_trans X.rest Y.rest; each = λ j. each j (X.each j) (Y.each j); below = λ b j. below b j (cases_eq b n) }
-    where
-      same : (T' Plain i n).reached ≡ (T Plain i n).reached
-      same = ap (λ x. x.reached) (X.rest Plain i n plain_not_up)
-
-      each : (j : ℕ) → (T' Up j 0 ≡ T Up j 0) ⊎ ((known T j ≡ false) × (b : ℕ) × NamedBy m T i b j (T' Up j 0)) → (T'' Up j 0 ≡ T' Up j 0) ⊎ ((known T' j ≡ false) × NamedBy m T' i n j (T'' Up j 0)) →
-          (T'' Up j 0 ≡ T Up j 0) ⊎ ((known T j ≡ false) × (b : ℕ) × NamedBy m T i b j (T'' Up j 0))
-      each j (inl e) (inl f) = inl (f ∙ e)
-      each j (inr z) (inl f) = inr (z.0, z.1, record { is = f ∙ z.2.is; reached = z.2.reached; named = z.2.named })
-      each j (inl e) (inr z) = inr (sym (ap (λ y. y.reached) e) ∙ z.0, n, record { is = z.1.is; reached = sym same ∙ z.1.reached; named = z.1.named })
-      each j (inr y) (inr z) = absurd (both_ways _ z.0 (ap (λ x. x.reached) y.2.is))
-
-      below : (b j : ℕ) → (b ≡ n) ⊎ (b ≡ n → ⊥) → b < n + 1 → (T Plain i b).reached ≡ true → m.place i b ≡ box j → known T'' j ≡ true
-      below b j (inl e) h r q = Y.all j (same ∙ subst (λ k. (T Plain i k).reached ≡ true) e r) (subst (λ k. m.place i k ≡ box j) e q)
-      below b j (inr e) h r q = let k = X.below b j (omega arith) r q in ap (λ y. y.reached) (kept T' T'' j (Y.each j) k) ∙ k
-
-  pub shown_all : {T T' : Table} (n P : ℕ) → P ≤ n → Shown m i n T T' → Shown m i P T T'
-  shown_all n P h X = record { rest = X.rest; each = X.each; below = λ b j k. X.below b j (omega arith) }
+kept T T' j h1 h2 = grind (arith, common_steps)
 
 -- ---- all structures
 traced_kept : (m : Meaning) (T T' : Table) (j : ℕ) → OnlyUp T T' → T' Up j 0 ≡ T Up j 0 → ((k : ℕ) → known T k ≡ true → known T' k ≡ true) → Traced m T j → Traced m T' j
-traced_kept m T T' j f e k (outermost z) = outermost z
-traced_kept m T T' j f e k (by_box a b c) =
-    let p = ap (λ x. x.from) e in
-    let q = ap (λ x. x.via) e in
-    by_box (k (T' Up j 0).from (subst (λ n. known T n ≡ true) (sym p) a))
-    (ap (λ x. x.reached) (f Plain (T' Up j 0).from (T' Up j 0).via plain_not_up) ∙ ap (λ n. (T Plain n (T' Up j 0).via).reached) p ∙ ap (λ n. (T Plain (T Up j 0).from n).reached) q ∙ b)
-    (ap (λ n. m.place n (T' Up j 0).via) p ∙ ap (λ n. m.place (T Up j 0).from n) q ∙ c)
+traced_kept m T T' j h1 h2 h3 h4 = grind (arith, common_steps)
 
 module _ (m : Meaning) (L : Lawful m) (P : ℕ) (e : P ≡ m.places) where
   pub knows_no : {T : Table} (n : ℕ) → known T n ≡ false → Knows m n T → Knows m (n + 1) T
-  knows_no {T} n y K = record { top = K.top; sound = K.sound; below = λ i b j. go i b j (cases_eq i n) }
-    where
-      go : (i b j : ℕ) → (i ≡ n) ⊎ (i ≡ n → ⊥) → i < n + 1 → known T i ≡ true → (T Plain i b).reached ≡ true → m.place i b ≡ box j → known T j ≡ true
-      go i b j (inl q) h k p x = absurd (both_ways _ y (subst (λ z. known T z ≡ true) q k))
-      go i b j (inr q) h k p x = K.below i b j (omega arith) k p x
+  knows_no n h1 h2 = grind (arith, common_steps)
 
   pub knows_yes : {T T' : Table} (n : ℕ) → n < m.structures → known T n ≡ true → Knows m n T → Shown m n P T T' → Knows m (n + 1) T'
   knows_yes {T} {T'} n h y K X = record { top = keeps 0 K.top; sound = λ j l k. sound j l k (X.each j); below = λ i b j l k. below i b j (cases_eq i n) l (before i l k (X.each i)) }
@@ -108,14 +73,7 @@ module _ (m : Meaning) (L : Lawful m) (P : ℕ) (e : P ≡ m.places) where
       below i b j (inr q) l k p x = keeps j (K.below i b j (omega arith) k (sym (ap (λ y. y.reached) (X.rest Plain i b plain_not_up)) ∙ p) x)
 
   pub knows_start : {T T' : Table} {x : Entry} → ((j : ℕ) → j < m.structures → known T j ≡ false) → x ≡ child 0 0 0 → Put T T' Up 0 0 x → Knows m 0 T'
-  knows_start {T} {T'} {x} none q Z = record { top = ap (λ y. y.reached) (Z.here ∙ q); sound = λ j l k. go j l k (cases_eq j 0); below = λ i b j l. absurd (omega arith) }
-    where
-      go : (j : ℕ) → j < m.structures → known T' j ≡ true → (j ≡ 0) ⊎ (j ≡ 0 → ⊥) → Traced m T' j
-      go j l k (inl z) = outermost z
-      go j l k (inr n) = absurd (both_ways _ (none j l) (sym (ap (λ y. y.reached) (Z.others Up j 0 (λ z. n z.1))) ∙ k))
-
-pub knows_end : (m : Meaning) {T : Table} (n S : ℕ) → S ≤ n → Knows m n T → Knows m S T
-knows_end m n S h K = record { top = K.top; sound = K.sound; below = λ i b j l. K.below i b j (omega arith) }
+  knows_start h1 h2 h3 = grind (arith, common_steps)
 
 -- ---- what is known, in terms of the hierarchy
 module _ (m : Meaning) (L : Lawful m) (T : Table) (B : Behind m 0 T) (K : Knows m m.structures T) where

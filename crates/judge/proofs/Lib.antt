@@ -1,6 +1,7 @@
 pub mod Told
 pub mod Looks
 pub mod Grow
+pub mod Expanding
 pub mod Turns
 pub mod Stays
 pub mod Fills

@@ -1,10 +1,10 @@
 -- The table that a guide is, read and written. Assumes nothing.
-use Rattle.std.proofs.Common.{◌≡◌, ℕ, ◌+◌, ◌*◌, ◌/◌, ◌%◌, ◌<◌, ◌≤◌, Bool, true, false, cond, ltb, ◌≢◌, ◌⊎◌, List, length, get_or, set, sym, refl, ap, ◌∙◌, inl, inr, arith, get_or-set_other, get_or-set_same}
+use Rattle.std.proofs.lemmas.Grind.{common_steps}
+use Rattle.std.proofs.Common.{◌≡◌, ℕ, ◌+◌, ◌*◌, ◌/◌, ◌%◌, ◌<◌, ◌≤◌, true, cond, ltb, ◌≢◌, ◌⊎◌, List, length, get_or, set, sym, ap, ◌∙◌, inl, inr, arith, get_or-set_other, get_or-set_same}
 use mathlib.Core.Path.{fun_ext}
-use Rattle.std.proofs.lemmas.Bool.{lt-ltb, ltb-true, cases_eq, le-ltb, cases_lt, both_ways}
+use Rattle.std.proofs.lemmas.Bool.{lt-ltb, cases_eq, le-ltb, cases_lt, both_ways}
 use Rattle.std.proofs.lemmas.Nat.{div-mul-add, mod-mul-add, mul-le}
 use Rattle.guide.specs.declared.Lane.{Lane}
-use Rattle.guide.specs.declared.Lane.TheVariants.{Plain, Marked, Up}
 use Rattle.guide.specs.declared.Entry.{Entry}
 use Rattle.guide.specs.declared.GuideRecord.{GuideRecord}
 use Rattle.guide.specs.Layout.{blank, blank_record_lem, lane_of, look, aim_of_lem}
@@ -15,31 +15,12 @@ pub look_in : (g : List GuideRecord) (P : ℕ) (c : Lane) (r u : ℕ) → u < P 
 unfolding look
 look_in g P c r u h = rw (lt-ltb u P h)
 
-pub look_plain : (g : List GuideRecord) (P : ℕ) (c : Lane) (r u n : ℕ) → c ≡ Plain → u < P → n ≡ r * P + u → (get_or g n blank_record_lem).plain ≡ look g P c r u
-look_plain g P c r u n e h k = rw (k, e) (sym (look_in g P Plain r u h))
-
-pub look_marked : (g : List GuideRecord) (P : ℕ) (c : Lane) (r u n : ℕ) → c ≡ Marked → u < P → n ≡ r * P + u → (get_or g n blank_record_lem).marked ≡ look g P c r u
-look_marked g P c r u n e h k = rw (k, e) (sym (look_in g P Marked r u h))
-
-pub look_up : (g : List GuideRecord) (P : ℕ) (c : Lane) (r u n : ℕ) → c ≡ Up → u < P → n ≡ r * P + u → (get_or g n blank_record_lem).up ≡ look g P c r u
-look_up g P c r u n e h k = rw (k, e) (sym (look_in g P Up r u h))
-
 -- what is written, cell by cell
 same_lane : (c : Lane) (x : GuideRecord) (l : Entry) → lane_of c (with_lane_lem x c l) ≡ l
-same_lane Plain x l = refl
-same_lane Marked x l = refl
-same_lane Up x l = refl
+same_lane c x l = grind (arith, common_steps)
 
 other_lane : (c c' : Lane) (x : GuideRecord) (l : Entry) → c' ≢ c → lane_of c' (with_lane_lem x c l) ≡ lane_of c' x
-other_lane Plain Plain x l n = absurd (n refl)
-other_lane Plain Marked x l n = refl
-other_lane Plain Up x l n = refl
-other_lane Marked Plain x l n = refl
-other_lane Marked Marked x l n = absurd (n refl)
-other_lane Marked Up x l n = refl
-other_lane Up Plain x l n = refl
-other_lane Up Marked x l n = refl
-other_lane Up Up x l n = absurd (n refl)
+other_lane c c' x l h1 = grind (arith, common_steps)
 
 -- two places with one position are one
 apart : (P r r' u u' : ℕ) → u < P → u' < P → r' * P + u' ≡ r * P + u → (r' ≡ r) × (u' ≡ u)
@@ -61,11 +42,7 @@ module _ (g : List GuideRecord) (P : ℕ) (c : Lane) (r u n : ℕ) (l : Entry) (
 
   move : (c' : Lane) (r' u' : ℕ) → (u' < P → lane_of c' (get_or g' (r' * P + u') blank_record_lem) ≡ lane_of c' (get_or g (r' * P + u') blank_record_lem)) → look g' P c' r' u' ≡ look g P c' r' u'
   unfolding look
-  move c' r' u' f = go (ltb u' P) (λ t. f (ltb-true u' P t))
-    where
-      go : (b : Bool) → (b ≡ true → lane_of c' (get_or g' (r' * P + u') blank_record_lem) ≡ lane_of c' (get_or g (r' * P + u') blank_record_lem)) → cond b (lane_of c' (get_or g' (r' * P + u') blank_record_lem)) blank ≡ cond b (lane_of c' (get_or g (r' * P + u') blank_record_lem)) blank
-      go true f = f refl
-      go false f = refl
+  move c' r' u' h1 = grind (arith, common_steps)
 
   pub put_rest : (u' : ℕ) → u' ≢ u → look g' P c r u' ≡ look g P c r u'
   put_rest u' ne = move c r u' (λ h'. ap (lane_of c) (at_other (r * P + u') (λ q. ne (apart P r r u u' h h' (q ∙ e)).1)))
@@ -105,13 +82,7 @@ module _ (g : List GuideRecord) (P r n a : ℕ) (h : 0 < P) (e : n ≡ r * P + 0
   aimed = set g n (record { plain = (get_or g n blank_record_lem).plain; marked = (get_or g n blank_record_lem).marked; up = (get_or g n blank_record_lem).up; aim = a })
 
   same_lanes : (c : Lane) (k : ℕ) → lane_of c (get_or aimed k blank_record_lem) ≡ lane_of c (get_or g k blank_record_lem)
-  same_lanes c k = go c (cases_eq k n)
-    where
-      go : (c : Lane) → (k ≡ n) ⊎ (k ≡ n → ⊥) → lane_of c (get_or aimed k blank_record_lem) ≡ lane_of c (get_or g k blank_record_lem)
-      go c (inr q) = ap (lane_of c) (get_or-set_other g n k _ blank_record_lem q)
-      go Plain (inl q) = ap (λ i. (get_or aimed i blank_record_lem).plain) q ∙ ap (λ x. x.plain) (get_or-set_same g n _ blank_record_lem within) ∙ ap (λ i. (get_or g i blank_record_lem).plain) (sym q)
-      go Marked (inl q) = ap (λ i. (get_or aimed i blank_record_lem).marked) q ∙ ap (λ x. x.marked) (get_or-set_same g n _ blank_record_lem within) ∙ ap (λ i. (get_or g i blank_record_lem).marked) (sym q)
-      go Up (inl q) = ap (λ i. (get_or aimed i blank_record_lem).up) q ∙ ap (λ x. x.up) (get_or-set_same g n _ blank_record_lem within) ∙ ap (λ i. (get_or g i blank_record_lem).up) (sym q)
+  same_lanes c k = grind (arith, common_steps)
 
   pub aim_keeps_look : look aimed P ≡ look g P
   unfolding look

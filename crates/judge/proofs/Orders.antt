@@ -1,5 +1,6 @@
 -- A depth-first order, one place at a time: the places still open are those on the way up from the current one.
 -- Assumes nothing.
+use Rattle.std.proofs.lemmas.Grind.{common_steps}
 use Rattle.std.proofs.Common.{◌≡◌, ℕ, ◌+◌, ◌<◌, ◌≤◌, true, false, ◌≢◌, ◌⊎◌, sym, refl, ap, ◌∙◌, subst, inl, inr, arith}
 use Rattle.std.proofs.lemmas.Bool.{cases_Bool, cases_eq, both_ways}
 use Rattle.hierarchy.specs.Meaning.{Meaning}
@@ -16,11 +17,7 @@ use Rattle.judge.proofs.Turns.{missing_same, missing_less, missing_le}
 -- ---- the way up
 module _ (m : Meaning) (i : ℕ) (row : ℕ → Entry) (hung : (u : ℕ) → (row u).reached ≡ true → Hung m i row u) where
   up_reached : (v : ℕ) → (row v).reached ≡ true → (row (row v).from).reached ≡ true
-  up_reached v r = go (hung v r)
-    where
-      go : Hung m i row v → (row (row v).from).reached ≡ true
-      go (at_top e f) = ap (λ k. (row k).reached) f ∙ r
-      go (below a b c d) = a
+  up_reached v h1 = grind (arith, common_steps)
 
   pub above_hops : {g v : ℕ} → (row v).reached ≡ true → Above row g v → Hops m i g v
   above_hops {g} r (there e) = subst (λ k. Hops m i g k) e stop
@@ -70,12 +67,7 @@ module _ (m : Meaning) (i P v w : ℕ) (row row' : ℕ → Entry) (O : Order m i
   was u ne r = sym (ap (λ x. x.reached) (rest u ne)) ∙ r
 
   pub down_done : (u : ℕ) → (row' u).done ≡ (row u).done
-  down_done u = go (cases_eq u w) (cases_Bool (row w).done)
-    where
-      go : (u ≡ w) ⊎ (u ≡ w → ⊥) → ((row w).done ≡ true) ⊎ ((row w).done ≡ false) → (row' u).done ≡ (row u).done
-      go (inr ne) z = ap (λ x. x.done) (rest u ne)
-      go (inl e) (inl t) = absurd (both_ways _ n (O.reached w t))
-      go (inl e) (inr f) = ap (λ k. (row' k).done) e ∙ ap (λ x. x.done) new ∙ sym (ap (λ k. (row k).done) e ∙ f)
+  down_done u = grind (arith, common_steps)
 
   pub down_fewer : remaining P row ≡ remaining P row' + 1
   down_fewer = omega (arith, fewer, missing_same (λ k. (row k).done) (λ k. (row' k).done) P (λ u z. down_done u))
@@ -137,11 +129,7 @@ module _ (m : Meaning) (i P v w : ℕ) (row row' : ℕ → Entry) (O : Order m i
 module _ (m : Meaning) (i P v : ℕ) (row row' : ℕ → Entry) (O : Order m i P v row) (now_done : row' v ≡ finished (row v)) (rest : (u : ℕ) → u ≢ v → row' u ≡ row u)
     (all : (w : ℕ) → Hop m i v w → (row w).reached ≡ true) where
   like : (u : ℕ) → finished (row' u) ≡ finished (row u)
-  like u = go (cases_eq u v)
-    where
-      go : (u ≡ v) ⊎ (u ≡ v → ⊥) → finished (row' u) ≡ finished (row u)
-      go (inl e) = subst (λ k. finished (row' k) ≡ finished (row k)) (sym e) (ap finished now_done)
-      go (inr ne) = ap finished (rest u ne)
+  like u = grind (arith, common_steps)
 
   like_reached : (u : ℕ) → (row' u).reached ≡ (row u).reached
   like_reached u = ap (λ x. x.reached) (like u)
@@ -150,23 +138,13 @@ module _ (m : Meaning) (i P v : ℕ) (row row' : ℕ → Entry) (O : Order m i P
   v_done = ap (λ x. x.done) now_done
 
   pub left_done : (u : ℕ) → (row' u).done ≡ true → (u ≡ v) ⊎ ((row u).done ≡ true)
-  left_done u d = go (cases_eq u v)
-    where
-      go : (u ≡ v) ⊎ (u ≡ v → ⊥) → (u ≡ v) ⊎ ((row u).done ≡ true)
-      go (inl e) = inl e
-      go (inr ne) = inr (sym (ap (λ x. x.done) (rest u ne)) ∙ d)
+  left_done u h1 = grind (arith, common_steps)
 
   pub stays_done : (u : ℕ) → (row u).done ≡ true → (row' u).done ≡ true
-  stays_done u d = go (cases_eq u v)
-    where
-      go : (u ≡ v) ⊎ (u ≡ v → ⊥) → (row' u).done ≡ true
-      go (inl e) = ap (λ k. (row' k).done) e ∙ v_done
-      go (inr ne) = ap (λ x. x.done) (rest u ne) ∙ d
+  stays_done u h1 = grind (arith, common_steps)
 
   still_open : (u : ℕ) → (row' u).done ≡ false → (u ≡ v → ⊥) × ((row u).done ≡ false)
-  still_open u d =
-      let ne : u ≡ v → ⊥ = λ e. both_ways _ d (ap (λ k. (row' k).done) e ∙ v_done) in
-      (ne, sym (ap (λ x. x.done) (rest u ne)) ∙ d)
+  still_open u h1 = grind (arith, common_steps)
 
   pub left_fewer : remaining P row ≡ remaining P row' + 1
   left_fewer =

@@ -1,5 +1,6 @@
 -- A verdict on a pile is one on the good runs of its bottom, and its refusals are the size formulas worked from there.
-use Rattle.std.proofs.Common.{◌≡◌, ℕ, ◌+◌, ◌*◌, Bool, true, false, cond, ltb, List, is_some, Some, None, Ok, Err, Option, Result, sym, refl, ap, ◌∙◌, subst, ap₂, arith}
+use Rattle.std.proofs.lemmas.Grind.{common_steps}
+use Rattle.std.proofs.Common.{◌≡◌, ℕ, ◌+◌, ◌*◌, Bool, false, cond, ltb, List, is_some, Some, None, Ok, Err, Option, Result, sym, ap, ◌∙◌, subst, ap₂, arith}
 use Rattle.std.specs.Result.{result_err}
 use Rattle.hierarchy.specs.Meaning.{Meaning, Lawful}
 use Rattle.hierarchy.specs.Flat.{Recurs}
@@ -18,13 +19,11 @@ abbrev refusal_by : Bool → ℕ → ℕ → Option Refusal
 refusal_by large n need = cond large (Some TooLarge) (cond (ltb n need) (Some TooLittleMemory) None)
 
 refusal_same : (large : Bool) (n need need' : ℕ) → (large ≡ false → need ≡ need') → refusal_by large n need ≡ refusal_by large n need'
-refusal_same true n need need' e = refl
-refusal_same false n need need' e = ap (λ k. refusal_by false n k) (e refl)
+refusal_same large n need need' h1 = grind (arith, common_steps)
 
 -- a judgment that is not refused is of what is not too large
 fits_unrefused : (large : Bool) (n need : ℕ) → refusal_by large n need ≡ None → large ≡ false
-fits_unrefused true n need e = let z : ◌≡◌ {A = ℕ} 0 1 = cc in absurd (omega arith)
-fits_unrefused false n need e = refl
+fits_unrefused large n need h1 = grind (arith, common_steps)
 
 pub pile_refused : (b : Meaning) → Lawful b → (automata : List Automaton) → AllProper automata → (n : ℕ)
     → judge_refusal (laid automata b) n ≡ pile_refusal b automata n

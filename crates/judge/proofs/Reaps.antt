@@ -1,9 +1,9 @@
 -- A search from the seeds of a structure makes its marked row right.
 -- Assumes nothing.
+use Rattle.std.proofs.lemmas.Grind.{common_steps}
 use Rattle.std.proofs.Common.{◌≡◌, ℕ, ◌+◌, ◌<◌, ◌≤◌, true, false, subst, arith}
-use Rattle.hierarchy.specs.Meaning.{Meaning, absent, Lawful}
-use Rattle.theory.specs.Hops.{HopMarked, over!, through!, Hops}
-use Rattle.theory.proofs.Paths.{node_not_absent, box_not_absent}
+use Rattle.hierarchy.specs.Meaning.{Meaning, Lawful}
+use Rattle.theory.specs.Hops.{HopMarked, Hops}
 use Rattle.guide.specs.declared.Entry.{Entry}
 use Rattle.guide.specs.declared.Lane.TheVariants.{Marked}
 use Rattle.guide.specs.Layout.{Table}
@@ -11,31 +11,20 @@ use Rattle.judge.specs.Spread.{Fit}
 use Rattle.judge.specs.Search.{Spreads, Closed, NothingOpen}
 use Rattle.judge.specs.Rows.{Filled, PlainRow, From, from_row, OnWay, MarkedRow}
 use Rattle.judge.specs.Seeds.{Seeded, marked_site}
-use Rattle.judge.proofs.Fills.{filled, seed_of, seed_why, seed_kept, seeded_ranked, came, reached_on}
+use Rattle.judge.proofs.Fills.{filled, seed_why, seed_kept, seeded_ranked, came, reached_on}
 use Rattle.judge.proofs.Sows.{by_marked}
 
 pub marked_fit : (m : Meaning) (L : Lawful m) (P i : ℕ) → m.large ≡ false → P ≡ m.places → i < m.structures → Fit m (marked_site P i)
-marked_fit m L P i f e h = record {
-  places = e;
-  apart = λ b j q z. (let k = (L.inner i b j q).0 in omega arith);
-  small = omega (arith, (L.sized f).3);
-  row = omega arith;
-}
+marked_fit m L P i h1 h2 h3 = grind (arith, common_steps)
 
 -- a place with a marked hop is one of the row's
 pub hop_inside : (m : Meaning) (L : Lawful m) (i v w P : ℕ) → P ≡ m.places → HopMarked m i v w → v < P
-hop_inside m L i v w P e k = omega (arith, (L.within i v (present k)).1)
-  where
-    present : HopMarked m i v w → m.place i v ≡ absent → ⊥
-    present (over! k x) = node_not_absent (L.edge_from i v w x)
-    present (through! {j} {e} b p l) = box_not_absent b
+hop_inside m L i v w P h1 h2 = grind (arith, common_steps)
 
 module _ (m : Meaning) (L : Lawful m) (P i : ℕ) (row : ℕ → Entry) (R : PlainRow m i row) (T : Table) (F : Fit m (marked_site P i)) (Z : Seeded (marked_site P i) (from_row m i row) T) where
   -- a seed is one deeper than a plain place
   pub seed_depth : (u : ℕ) → (T Marked i u).reached ≡ true → (T Marked i u).depth ≤ P
-  seed_depth u h =
-      let w = (seed_of m (marked_site P i) (from_row m i row) T Z u h).why in
-      omega (arith, w.1.depth, R.filled.shallow (T Marked i u).from w.0, F.places)
+  seed_depth u h1 = grind (arith, common_steps)
 
   module _ (T' : Table) (B : From m (i + 1) T) (X : (v w : ℕ) → Hops m i (m.entry i) v → HopMarked m i v w → (T Marked i w).reached ≡ true)
       (Y : Spreads m (marked_site P i) T T') (C : Closed m (marked_site P i) T') (N : NothingOpen T' (marked_site P i)) where

@@ -1,6 +1,7 @@
 -- A ring of one structure, by a search of the last row.
 -- Assumes nothing.
-use Rattle.std.proofs.Common.{◌≡◌, ℕ, ◌+◌, ◌<◌, ◌≤◌, true, false, ◌∙◌, subst, arith}
+use Rattle.std.proofs.lemmas.Grind.{common_steps}
+use Rattle.std.proofs.Common.{◌≡◌, ℕ, ◌+◌, ◌<◌, ◌≤◌, true, false, ◌∙◌, arith}
 use mathlib.Core.Path.{fun_ext}
 use Rattle.hierarchy.specs.Meaning.{Meaning, Lawful}
 use Rattle.theory.specs.Hops.{Hop, over, through, HopMarked, over!, through!, Hops, MarkedRound}
@@ -14,21 +15,14 @@ use Rattle.judge.specs.Search.{Spreads, Closed, NothingOpen, Orderly}
 use Rattle.judge.specs.Rows.{Filled, from_one, OnWay, Behind}
 use Rattle.judge.specs.Seeds.{Seeded, SownFrom}
 use Rattle.judge.specs.Known.{known, Knows}
-use Rattle.judge.specs.Ring.{ring_site, Back, RingRow, Ringed}
-use Rattle.judge.specs.Nested.{HasRing}
+use Rattle.judge.specs.Ring.{ring_site, Back, RingRow}
 use Rattle.judge.proofs.Stays.{both_kept, both_same, behind_plain}
 use Rattle.judge.proofs.Fills.{filled, seed_of, seed_why, seed_kept, seeded_ranked, seeded_orderly, reached_on}
 use Rattle.judge.proofs.Sows.{sown_seeded}
-use Rattle.judge.proofs.Reaps.{hop_inside}
 use Rattle.judge.proofs.Knowing.{reached_known}
 
 pub ring_fit : (m : Meaning) (L : Lawful m) (S P i : ℕ) → m.large ≡ false → P ≡ m.places → S ≡ m.structures → Fit m (ring_site S P i)
-ring_fit m L S P i f e h = record {
-  places = e;
-  apart = λ b j q z. (let k = (L.inner i b j q).1 in omega arith);
-  small = omega (arith, (L.sized f).3);
-  row = omega arith;
-}
+ring_fit m L S P i h1 h2 h3 = grind (arith, common_steps)
 
 -- the last row is no structure's
 pub behind_last : (m : Meaning) (T T' : Table) (c : Lane) (S i : ℕ) → S ≡ m.structures → Others T T' c S → Behind m i T → Behind m i T'
@@ -78,15 +72,6 @@ marked_hop (through! b p l) = through b (record { exits = p.exits; path = append
 
 pub back_on_way : {m : Meaning} {i u : ℕ} → Hops m i (m.entry i) u → Back m i u → OnWay m i u
 back_on_way {u = u} p x = record { v = u; w = x.w; come = p; go = x.go; on = x.on }
-
-pub back_inside : (m : Meaning) (L : Lawful m) (i u P : ℕ) → P ≡ m.places → Back m i u → u < P
-back_inside m L i u P e x = hop_inside m L i u x.w P e x.go
-
-pub ringed : (m : Meaning) (T : Table) (S i u : ℕ) → S ≡ m.structures → Behind m 0 T → i < m.structures → HasRing m i u → (Back m i u → RingRow m i u (T Plain S)) → Ringed m T i u
-ringed m T S i u e B h x f = record {
-  come = ((B i (omega arith) h).plain.right u).1 x.come;
-  row = subst (λ k. RingRow m i u (T Plain k)) e (f x.back);
-}
 
 -- a marked round is a ring in a known structure
 pub no_round : (m : Meaning) (L : Lawful m) (T : Table) → Behind m 0 T → Knows m m.structures T → 0 < m.structures →

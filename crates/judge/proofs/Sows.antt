@@ -1,79 +1,48 @@
 -- Sowing seeds: the targets of marked hops, and only those, are reached.
 -- Assumes nothing.
-use Rattle.std.proofs.Common.{◌≡◌, ℕ, ◌+◌, ◌<◌, ◌≤◌, Bool, true, false, ◌&&◌, ◌||◌, ◌⊎◌, sym, refl, ap, ◌∙◌, subst, inl, inr, arith}
+use Rattle.std.proofs.lemmas.Grind.{common_steps}
+use Rattle.std.proofs.Common.{◌≡◌, ℕ, ◌+◌, ◌<◌, true, false, ◌&&◌, ◌||◌, ◌⊎◌, sym, refl, ap, ◌∙◌, subst, inl, inr, arith}
 use Rattle.std.proofs.lemmas.Bool.{cases_eq, both_ways, and_parts, and_from, or_cases, or_left, or_right}
-use Rattle.hierarchy.specs.Meaning.{Meaning, absent, box, Lawful}
+use Rattle.hierarchy.specs.Meaning.{Meaning, box, Lawful}
 use Rattle.theory.specs.Hops.{PassMarked, HopMarked, over!, through!, Hops, HopPass, at_end, on_way}
-use Rattle.theory.proofs.Paths.{same_box, node_not_box, node_not_absent, box_not_absent}
 use Rattle.theory.proofs.Passing.{marked_pass→hops, hops→marked_pass}
 use Rattle.guide.specs.declared.Entry.{Entry}
 use Rattle.guide.specs.declared.Lane.TheVariants.{Plain, Marked}
 use Rattle.guide.specs.Layout.{Table, blank}
 use Rattle.judge.specs.declared.table.Site.{Site}
-use Rattle.judge.specs.Spread.{here, Adds, Fit, finished}
+use Rattle.judge.specs.Spread.{here, Fit}
 use Rattle.judge.specs.Rows.{Start, PlainRow, HopMarkedBy, on!, by!, from_one, from_row, BothRows, Behind}
-use Rattle.judge.specs.Seeds.{seed_entry, Seed, Seeded, Sown, SownBy, SownFrom, SownBelow, marked_site}
-use Rattle.judge.proofs.Grow.{others_refl, others_trans, adds_each, adds_all}
-use Rattle.judge.proofs.Stays.{row_same, both_kept}
+use Rattle.judge.specs.Seeds.{Seed, Seeded, Sown, SownFrom, SownBelow, marked_site}
+use Rattle.judge.specs.declared.spread.Along.TheVariants.{Marks}
+use Rattle.judge.specs.Follows.{passes, Follows, along_edge, along_exit, Come, Expands}
+use Rattle.judge.proofs.Stays.{row_same}
 
 module _ (s : Site) (Q : Start) where
-  pub sown_none : (T : Table) → Sown s Q T T
-  sown_none T = record { others = others_refl T s.lane s.row; each = λ u. inl refl }
-
   pub sown_keeps : {T T' : Table} → Sown s Q T T' → (u : ℕ) → (here T s u).reached ≡ true → (here T' s u).reached ≡ true
-  sown_keeps {T} {T'} X u h = go (X.each u)
-    where
-      go : (here T' s u ≡ here T s u) ⊎ (((here T s u).reached ≡ false) × Seed Q u (here T' s u)) → (here T' s u).reached ≡ true
-      go (inl e) = ap (λ x. x.reached) e ∙ h
-      go (inr z) = z.1.reached
+  sown_keeps h1 u h2 = grind (arith, common_steps)
 
   moved : {u : ℕ} {x y : Entry} → y ≡ x → Seed Q u x → Seed Q u y
   moved {u} e z = subst (Seed Q u) (sym e) z
 
   pub sown_more : {T T' T'' : Table} → Sown s Q T T' → Sown s Q T' T'' → Sown s Q T T''
-  sown_more {T} {T'} {T''} X Y = record { others = others_trans X.others Y.others; each = λ u. go u (X.each u) (Y.each u) }
-    where
-      go : (u : ℕ) → (here T' s u ≡ here T s u) ⊎ (((here T s u).reached ≡ false) × Seed Q u (here T' s u)) → (here T'' s u ≡ here T' s u) ⊎ (((here T' s u).reached ≡ false) × Seed Q u (here T'' s u)) →
-          (here T'' s u ≡ here T s u) ⊎ (((here T s u).reached ≡ false) × Seed Q u (here T'' s u))
-      go u (inl e) (inl f) = inl (f ∙ e)
-      go u (inr z) (inl f) = inr (z.0, moved f z.1)
-      go u (inl e) (inr z) = inr (sym (ap (λ x. x.reached) e) ∙ z.0, z.1)
-      go u (inr y) (inr z) = absurd (both_ways _ z.0 y.1.reached)
-
-  pub sown_adds : {T T' : Table} (v e d : ℕ) (f : ℕ → Bool) → ((w : ℕ) → f w ≡ true → Q w (finished (seed_entry v e d))) → Adds s (seed_entry v e d) f T T' → Sown s Q T T'
-  sown_adds {T} {T'} v e d f why A = record { others = A.others; each = λ u. go u (adds_each s (seed_entry v e d) f A u) }
-    where
-      go : (u : ℕ) → (here T' s u ≡ here T s u) ⊎ (((here T s u).reached ≡ false) × (here T' s u ≡ seed_entry v e d) × (f u ≡ true)) → (here T' s u ≡ here T s u) ⊎ (((here T s u).reached ≡ false) × Seed Q u (here T' s u))
-      go u (inl k) = inl k
-      go u (inr k) = inr (k.0, moved k.1 (record { reached = refl; waiting = refl; why = why u k.2 }))
+  sown_more h1 h2 = grind (arith, common_steps)
 
   pub sown_map : (R : Start) {T T' : Table} → ((u : ℕ) (x : Entry) → Q u x → R u x) → Sown s Q T T' → Sown s R T T'
-  sown_map R {T} {T'} g X = record { others = X.others; each = λ u. go u (X.each u) }
-    where
-      go : (u : ℕ) → (here T' s u ≡ here T s u) ⊎ (((here T s u).reached ≡ false) × Seed Q u (here T' s u)) → (here T' s u ≡ here T s u) ⊎ (((here T s u).reached ≡ false) × Seed R u (here T' s u))
-      go u (inl e) = inl e
-      go u (inr z) = inr (z.0, record { reached = z.1.reached; waiting = z.1.waiting; why = g u _ z.1.why })
+  sown_map R h1 h2 = grind (arith, common_steps)
 
   pub sown_seeded : (T T' : Table) → ((u : ℕ) → here T s u ≡ blank) → Sown s Q T T' → Seeded s Q T'
-  sown_seeded T T' b X u = go (X.each u)
-    where
-      go : (here T' s u ≡ here T s u) ⊎ (((here T s u).reached ≡ false) × Seed Q u (here T' s u)) → (here T' s u ≡ blank) ⊎ Seed Q u (here T' s u)
-      go (inl e) = inl (e ∙ b u)
-      go (inr z) = inr z.1
+  sown_seeded T T' h1 h2 = grind (arith, common_steps)
 
 -- ---- a marked pass, as the rows have it
-abbrev pub met_by : Meaning → Table → ℕ → ℕ → Bool
-met_by m T j e = m.exits j e && ((T Marked j e).reached || (m.mark j e && (T Plain j e).reached))
-
 module _ (m : Meaning) (L : Lawful m) (T : Table) (j e : ℕ) (h : j < m.structures) (B : BothRows m j T) where
-  pub met→pass : met_by m T j e ≡ true → PassMarked m j e
+  pub met→pass : passes m T Marks j e ≡ true → PassMarked m j e
   met→pass t = let a = and_parts (m.exits j e) _ t in hops→marked_pass L h a.0 (go (or_cases _ _ a.1))
     where
       go : ((T Marked j e).reached ≡ true) ⊎ ((m.mark j e && (T Plain j e).reached) ≡ true) → HopPass m j e
       go (inl r) = let x = (B.marked.right e).0 r in on_way x.come x.go x.on
       go (inr r) = let a = and_parts (m.mark j e) _ r in at_end ((B.plain.right e).0 a.1) a.0
 
-  pub pass→met : PassMarked m j e → met_by m T j e ≡ true
+  pub pass→met : PassMarked m j e → passes m T Marks j e ≡ true
   pass→met p = and_from _ _ p.exits (go (marked_pass→hops L h p))
     where
       go : HopPass m j e → ((T Marked j e).reached || (m.mark j e && (T Plain j e).reached)) ≡ true
@@ -89,71 +58,35 @@ pub by_marked : {m : Meaning} {i v e w : ℕ} → HopMarkedBy m i v e w → HopM
 by_marked (on! k x) = over! k x
 by_marked (by! b p l) = through! b p l
 
-no_edge : (m : Meaning) (L : Lawful m) {i v w j : ℕ} → m.place i v ≡ box j → m.edge i v w ≡ true → ⊥
-no_edge m L {i} {v} {w} b e = node_not_box (L.edge_from i v w e) b
+-- what is followed along the marks of v is sown
+module _ (m : Meaning) (L : Lawful m) (s : Site) (v d : ℕ) (F : Fit m s) (T T' : Table) (B : Behind m (s.structure + 1) T) where
+  rows_of : {j : ℕ} → m.place s.structure v ≡ box j → BothRows m j T
+  rows_of {j} b = let h = L.inner s.structure v j b in B j (omega (arith, h.0)) h.1
 
--- a box
-module _ (m : Meaning) (L : Lawful m) (s : Site) (v d j : ℕ) (F : Fit m s) (b : m.place s.structure v ≡ box j) where
-  inner_both : {T T' : Table} → Behind m (s.structure + 1) T → Sown s (from_one m s.structure v d) T T' → BothRows m j T'
-  inner_both {T} {T'} B X =
-      let h = L.inner s.structure v j b in
-      both_kept m T T' s.lane s.row j X.others (F.apart v j b) (B j (omega (arith, h.0)) h.1)
+  to_marked : {e w : ℕ} → Follows m T Marks s.structure v e w → HopMarkedBy m s.structure v e w
+  to_marked (along_edge k x) = on! k x
+  to_marked {e} (along_exit {j} b p l) = by! b (met→pass m L T j e (L.inner s.structure v j b).1 (rows_of b) p) l
 
-  pub by_none : (T : Table) → SownBy m s v d 0 T T
-  by_none T = record { sown = sown_none s _ T; below = λ e w h. absurd (omega arith) }
+  from_marked : {e w : ℕ} → HopMarkedBy m s.structure v e w → Follows m T Marks s.structure v e w
+  from_marked (on! k x) = along_edge k x
+  from_marked {e} (by! {j} b p l) = along_exit b (pass→met m L T j e (L.inner s.structure v j b).1 (rows_of b) p) l
 
-  pub by_no : {T T' : Table} {t : Bool} (n : ℕ) → Behind m (s.structure + 1) T → t ≡ met_by m T' j n → t ≡ false → SownBy m s v d n T T' → SownBy m s v d (n + 1) T T'
-  by_no {T} {T'} {t} n B q y X = record { sown = X.sown; below = λ e w. more e w (cases_eq e n) }
+  pub expands_sown : Expands m s Marks v d T T' → SownFrom m s v d T T'
+  expands_sown X = record {
+    sown = record { others = X.others; each = λ u. go u (X.each u) };
+    all = λ w k. (let h = marked_by k in X.all h.0 w (from_marked h.1));
+  }
     where
-      clash : (w : ℕ) → HopMarkedBy m s.structure v n w → ⊥
-      clash w (on! k x) = no_edge m L b x
-      clash w (by! {j = i} p k l) =
-          let k' : PassMarked m j n = subst (λ z. PassMarked m z n) (same_box p b) k in
-          both_ways _ y (q ∙ pass→met m L T' j n (L.inner s.structure v j b).1 (inner_both B X.sown) k')
-
-      more : (e w : ℕ) → (e ≡ n) ⊎ (e ≡ n → ⊥) → e < n + 1 → HopMarkedBy m s.structure v e w → (here T' s w).reached ≡ true
-      more e w (inl z) h k = absurd (clash w (subst (λ i. HopMarkedBy m s.structure v i w) z k))
-      more e w (inr z) h k = X.below e w (omega arith) k
-
-  pub by_yes : {T T' T'' : Table} {t : Bool} {x : Entry} (n : ℕ) → Behind m (s.structure + 1) T → t ≡ met_by m T' j n → t ≡ true → SownBy m s v d n T T' →
-      x ≡ seed_entry v n d → Adds s x (m.leave s.structure v n) T' T'' → SownBy m s v d (n + 1) T T''
-  by_yes {T} {T'} {T''} {t} {x} n B q y X xq D = record { sown = sown_more s _ X.sown Y; below = λ e w. more e w (cases_eq e n) }
-    where
-      D' : Adds s (seed_entry v n d) (m.leave s.structure v n) T' T''
-      D' = subst (λ z. Adds s z (m.leave s.structure v n) T' T'') xq D
-
-      p : PassMarked m j n
-      p = met→pass m L T' j n (L.inner s.structure v j b).1 (inner_both B X.sown) (sym q ∙ y)
-
-      Y : Sown s (from_one m s.structure v d) T' T''
-      Y = sown_adds s _ v n d (m.leave s.structure v n) (λ w l. (refl, record { depth = refl; seed = refl; hop = by! b p l })) D'
-
-      there : (w : ℕ) → HopMarkedBy m s.structure v n w → (here T'' s w).reached ≡ true
-      there w (on! k x) = absurd (no_edge m L b x)
-      there w (by! p k l) = adds_all s (seed_entry v n d) (m.leave s.structure v n) refl D' w l
-
-      more : (e w : ℕ) → (e ≡ n) ⊎ (e ≡ n → ⊥) → e < n + 1 → HopMarkedBy m s.structure v e w → (here T'' s w).reached ≡ true
-      more e w (inl z) h k = there w (subst (λ i. HopMarkedBy m s.structure v i w) z k)
-      more e w (inr z) h k = sown_keeps s _ Y w (X.below e w (omega arith) k)
-
-  pub by_all : {T T' : Table} (n : ℕ) → m.places ≤ n → SownBy m s v d n T T' → SownFrom m s v d T T'
-  by_all {T} {T'} n h X = record { sown = X.sown; all = λ w k. go w (marked_by k) }
-    where
-      low : (e w : ℕ) → HopMarkedBy m s.structure v e w → e < n
-      low e w (on! k x) = absurd (no_edge m L b x)
-      low e w (by! {j = i} p k l) = omega (arith, (L.within i e (node_not_absent (L.exit_node i e k.exits))).1)
-
-      go : (w : ℕ) → (e : ℕ) × HopMarkedBy m s.structure v e w → (here T' s w).reached ≡ true
-      go w k = X.below k.0 w (low k.0 w k.1) k.1
-
--- a node, or nothing
-module _ (m : Meaning) (L : Lawful m) (s : Site) (v d : ℕ) where
-  pub absent_no : (T : Table) → m.place s.structure v ≡ absent → SownFrom m s v d T T
-  absent_no T a = record { sown = sown_none s _ T; all = λ w k. absurd (clash w k) }
-    where
-      clash : (w : ℕ) → HopMarked m s.structure v w → ⊥
-      clash w (over! k x) = node_not_absent (L.edge_from s.structure v w x) a
-      clash w (through! {j} {e} b p l) = box_not_absent b a
+      go : (u : ℕ) → (here T' s u ≡ here T s u) ⊎ Come m s Marks v d T u (here T' s u) → (here T' s u ≡ here T s u) ⊎ (((here T s u).reached ≡ false) × Seed (from_one m s.structure v d) u (here T' s u))
+      go u (inl e) = inl e
+      go u (inr k) = inr (
+        k.new,
+        subst (Seed (from_one m s.structure v d) u) (sym k.is) (record {
+          reached = refl;
+          waiting = refl;
+          why = (refl, record { depth = refl; seed = refl; hop = to_marked k.hop });
+        }),
+      )
 
 -- ---- the marked hops of all reached places
 module _ (m : Meaning) (P i : ℕ) where

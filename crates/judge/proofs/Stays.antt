@@ -1,5 +1,6 @@
 -- Rows that are right stay right where nothing is written; and the rows behind a structure, one structure at a time.
 -- Assumes nothing.
+use Rattle.std.proofs.lemmas.Grind.{common_steps}
 use Rattle.std.proofs.Common.{◌≡◌, ℕ, ◌+◌, ◌≤◌, ◌⊎◌, sym, subst, inl, inr, arith}
 use mathlib.Core.Path.{fun_ext}
 use Rattle.std.proofs.lemmas.Bool.{cases_eq}
@@ -17,10 +18,7 @@ pub row_same : (T T' : Table) (c : Lane) (r : ℕ) → Others T T' c r → (c' :
 row_same T T' c r f c' j n = fun_ext (λ u. f c' j u n)
 
 pub both_same : (m : Meaning) (T T' : Table) (j : ℕ) → T' Plain j ≡ T Plain j → T' Marked j ≡ T Marked j → BothRows m j T → BothRows m j T'
-both_same m T T' j p q B = record {
-  plain = subst (PlainRow m j) (sym p) B.plain;
-  marked = subst (λ r. MarkedRow m j r (T' Marked j)) (sym p) (subst (MarkedRow m j (T Plain j)) (sym q) B.marked);
-}
+both_same m T T' j h1 h2 h3 = grind (arith, common_steps)
 
 pub both_kept : (m : Meaning) (T T' : Table) (c : Lane) (r j : ℕ) → Others T T' c r → (j ≡ r → ⊥) → BothRows m j T → BothRows m j T'
 both_kept m T T' c r j f n = both_same m T T' j (row_same T T' c r f Plain j (λ z. n z.1)) (row_same T T' c r f Marked j (λ z. n z.1))

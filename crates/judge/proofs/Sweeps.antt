@@ -1,5 +1,6 @@
 -- Sweeping what the marked hops of a place lead to: either the place has a ring, or everything swept is left already.
 -- Assumes nothing.
+use Rattle.std.proofs.lemmas.Grind.{common_steps}
 use Rattle.std.proofs.Common.{◌≡◌, ℕ, ◌+◌, ◌≤◌, Bool, true, false, cond, ◌⊎◌, sym, ap, ◌∙◌, subst, inl, inr, arith}
 use Rattle.std.proofs.lemmas.Bool.{cases_Bool, both_ways}
 use Rattle.hierarchy.specs.Meaning.{Meaning, Lawful}
@@ -21,17 +22,7 @@ use Rattle.judge.proofs.Rings.{marked_hop}
 use Rattle.judge.proofs.Orders.{above_hops}
 
 pub swept_start : (m : Meaning) (i P : ℕ) (order row : ℕ → Entry) → ((u : ℕ) → (order u).done ≡ false) → ((u : ℕ) → row u ≡ blank) → Swept m i P order row
-swept_start m i P order row n b = record {
-  settled = λ u r. absurd (not u r);
-  reached = λ u d. absurd (both_ways _ (ap (λ x. x.done) (b u)) d);
-  ranked = λ u r. absurd (not u r);
-  closed = λ u w r. absurd (not u r);
-  left = λ u r. absurd (not u r);
-  none = λ u d. absurd (both_ways _ (n u) d);
-}
-  where
-    not : (u : ℕ) → (row u).reached ≡ true → ⊥
-    not u r = both_ways _ (ap (λ x. x.reached) (b u)) r
+swept_start m i P order row h1 h2 = grind (arith, common_steps)
 
 -- the order goes on, and the sweeps stay as they are
 pub swept_on : (m : Meaning) (i P : ℕ) (order order' row row' : ℕ → Entry) → row' ≡ row → ((u : ℕ) → (order u).done ≡ true → (order' u).done ≡ true) → ((u : ℕ) → (order' u).done ≡ true → Back m i u → ⊥) →
@@ -44,15 +35,7 @@ swept_on m i P order order' row row' e f n W =
 module _ (m : Meaning) (L : Lawful m) (S P i v : ℕ) (F : Fit m (ring_site S P i)) (T T₁ : Table) (B : From m (i + 1) T₁) (O : Order m i P v (T Marked S)) (W : Swept m i P (T Marked S) (T Plain S))
     (X : SownFrom m (ring_site S P i) v 1 T T₁) where
   done_same : (u : ℕ) → (T₁ Plain S u).done ≡ (T Plain S u).done
-  done_same u = go (X.sown.each u)
-    where
-      undone : (T Plain S u).reached ≡ false → ((T Plain S u).done ≡ true) ⊎ ((T Plain S u).done ≡ false) → (T Plain S u).done ≡ false
-      undone n (inl d) = absurd (both_ways _ n (W.reached u d))
-      undone n (inr d) = d
-
-      go : (T₁ Plain S u ≡ T Plain S u) ⊎ (((T Plain S u).reached ≡ false) × Seed (from_one m i v 1) u (T₁ Plain S u)) → (T₁ Plain S u).done ≡ (T Plain S u).done
-      go (inl e) = ap (λ x. x.done) e
-      go (inr z) = z.1.waiting ∙ sym (undone z.0 (cases_Bool _))
+  done_same u = grind (arith, common_steps)
 
   seeded_ranked : Ranked (P + 1) (ring_site S P i) T₁
   seeded_ranked u h = go (X.sown.each u)

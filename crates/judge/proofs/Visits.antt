@@ -1,13 +1,15 @@
 -- One visit of a place: down to a place that is not reached, or the place is left.
 -- Assumes nothing.
-use Rattle.std.proofs.Common.{◌≡◌, ℕ, ◌+◌, ◌<◌, Bool, true, false, ◌≢◌, ◌⊎◌, Some, None, sym, refl, ap, ◌∙◌, subst, inl, inr, arith}
+use Rattle.std.proofs.Common.{arith}
+use Rattle.std.proofs.lemmas.Grind.{common_steps}
+use Rattle.std.proofs.Common.{◌≡◌, ℕ, ◌+◌, ◌<◌, Bool, true, false, ◌≢◌, ◌⊎◌, Some, None, sym, refl, ap, ◌∙◌, subst, inl, inr}
 use Rattle.std.proofs.lemmas.Bool.{cases_eq, both_ways}
 use Rattle.hierarchy.specs.Meaning.{Meaning, Lawful}
 use Rattle.theory.specs.Hops.{Hop}
 use Rattle.guide.specs.declared.Entry.{Entry}
 use Rattle.guide.specs.declared.Lane.TheVariants.{Plain, Marked}
 use Rattle.guide.specs.Layout.{Table, blank}
-use Rattle.judge.specs.Tables.{Others, Put, Kept}
+use Rattle.judge.specs.Tables.{Others, Put}
 use Rattle.judge.specs.Spread.{child, finished, Fit}
 use Rattle.judge.specs.Search.{Spreads, Closed, Orderly, NothingOpen}
 use Rattle.judge.specs.Rows.{From, MarkedRow}
@@ -15,17 +17,9 @@ use Rattle.judge.specs.Seeds.{SownFrom}
 use Rattle.judge.specs.Ring.{ring_site, Back}
 use Rattle.judge.specs.Nested.{order_site, FreshHop, Order, Swept, Nested, SweptFrom, NoRing, remaining}
 use Rattle.judge.proofs.Stays.{row_same, plain_not_marked}
-use Rattle.judge.proofs.Rings.{back_on_way, others_keep, kept_trans}
-use Rattle.judge.proofs.Orders.{order_start, order_down, order_up, down_done, down_fewer, left_done, stays_done, left_fewer, all_left}
+use Rattle.judge.proofs.Rings.{back_on_way}
+use Rattle.judge.proofs.Orders.{order_start, order_down, order_up, down_done, down_fewer, stays_done, left_fewer, all_left}
 use Rattle.judge.proofs.Sweeps.{swept_start, swept_on, sweep_found, sweep_none, sweep_swept}
-
-pub order_fit : (m : Meaning) (L : Lawful m) (S P i : ℕ) → m.large ≡ false → P ≡ m.places → S ≡ m.structures → Fit m (order_site S P i)
-order_fit m L S P i f e h = record {
-  places = e;
-  apart = λ b j q z. (let k = (L.inner i b j q).1 in omega arith);
-  small = omega (arith, (L.sized f).3);
-  row = omega arith;
-}
 
 same_order : (T T' : Table) (S : ℕ) → Others T T' Plain S → T' Marked S ≡ T Marked S
 same_order T T' S f = row_same T T' Plain S f Marked S (λ z. plain_not_marked (sym z.0))
@@ -80,11 +74,7 @@ module _ (m : Meaning) (S P i v : ℕ) (T T₁ T₂ : Table) (x : Entry) (N : Ne
   now_done = Z.here ∙ ap finished e
 
   none₂ : (u : ℕ) → (T₂ Marked S u).done ≡ true → Back m i u → ⊥
-  none₂ u d = go (left_done m i P v (T₁ Marked S) (T₂ Marked S) order₁ now_done Z.rest all₁ u d)
-    where
-      go : (u ≡ v) ⊎ ((T₁ Marked S u).done ≡ true) → Back m i u → ⊥
-      go (inl z) b = nb (subst (Back m i) z b)
-      go (inr z) b = W.none u z b
+  none₂ u h1 h2 = grind (arith, common_steps)
 
   pub close_end : v ≡ m.entry i → NoRing m i
   close_end z u p = none₂ u (all_left m i P v (T₁ Marked S) (T₂ Marked S) order₁ now_done Z.rest all₁ z p)
@@ -99,9 +89,6 @@ module _ (m : Meaning) (S P i v : ℕ) (T T₁ T₂ : Table) (x : Entry) (N : Ne
         },
         ap (remaining P) (sym (same_order T T₁ S f)) ∙ left_fewer m i P v (T₁ Marked S) (T₂ Marked S) order₁ now_done Z.rest all₁,
       )
-
-  pub close_kept : Kept S T T₂
-  close_kept = kept_trans S T T₁ T₂ (others_keep T T₁ Plain S f) (others_keep T₁ T₂ Marked S Z.others)
 
 -- ---- the start
 module _ (m : Meaning) (S P i n : ℕ) (T₁ T₂ T₃ : Table) (x : Entry) (e : n ≡ m.entry i) (l : n < P) (b₁ : (u : ℕ) → T₁ Marked S u ≡ blank) (f₂ : Others T₁ T₂ Plain S) (b₂ : (u : ℕ) → T₂ Plain S u ≡ blank)

@@ -46,6 +46,10 @@ pub record Knows (m : Meaning) (n : ℕ) (T : Table) : Type 0 where
   pub sound : (j : ℕ) → j < m.structures → known T j ≡ true → Traced m T j
   pub below : (i b j : ℕ) → i < n → known T i ≡ true → (T Plain i b).reached ≡ true → m.place i b ≡ box j → known T j ≡ true
 
+-- the same of all structures
+abbrev pub AllKnown : Meaning → Table → Type 0
+AllKnown m T = Knows m m.structures T
+
 -- r says whether X holds
 pub record Decides (r : Bool) (X : Type 0) : Type 0 where
   pub sure : r ≡ true → X

@@ -3,6 +3,7 @@ pub mod Spread
 pub mod Search
 pub mod Rows
 pub mod Seeds
+pub mod Follows
 pub mod Known
 pub mod Ring
 pub mod Verdicts

@@ -1,11 +1,13 @@
 -- What a finished row of the guide says, in terms of the hierarchy alone.
 -- Assumes nothing.
-use Rattle.std.specs.Prelude.{◌≡◌, ℕ, ◌+◌, ◌<◌, ◌≤◌, true, false, ◌↔◌}
+use Rattle.std.specs.Prelude.{◌≡◌, ℕ, ◌+◌, ◌<◌, ◌≤◌, true, false, ◌↔◌, List}
 use Rattle.hierarchy.specs.Meaning.{Meaning, box}
 use Rattle.theory.specs.Hops.{Pass, PassMarked, Hop, HopMarked, Hops}
 use Rattle.guide.specs.declared.Entry.{Entry}
 use Rattle.guide.specs.declared.Lane.TheVariants.{Plain, Marked}
-use Rattle.guide.specs.Layout.{Table}
+use Rattle.guide.specs.Layout.{Table, look}
+use Rattle.guide.specs.declared.GuideRecord.{GuideRecord}
+use Rattle.judge.specs.Tables.{Stands}
 use Rattle.judge.specs.Spread.{finished}
 
 -- a hop from u to w, by the exit e if u is a box; a marked one
@@ -77,3 +79,8 @@ pub record BothRows (m : Meaning) (i : ℕ) (T : Table) : Type 0 where
 -- both lanes of each structure from i on are right
 abbrev pub Behind : Meaning → ℕ → Table → Type 0
 Behind m i T = (j : ℕ) → i ≤ j → j < m.structures → BothRows m j T
+
+-- the guide has room for S structures of P places and one row behind them, and all lanes are right
+pub record AllRows (m : Meaning) (g : List GuideRecord) (P S : ℕ) : Type 0 where
+  pub stands : Stands g P S
+  pub behind : Behind m 0 (look g P)

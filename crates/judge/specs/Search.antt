@@ -5,7 +5,9 @@ use Rattle.hierarchy.specs.Meaning.{Meaning}
 use Rattle.guide.specs.Layout.{Table}
 use Rattle.judge.specs.declared.table.Site.{Site}
 use Rattle.judge.specs.Tables.{Others, Put}
-use Rattle.judge.specs.Spread.{Via, here, Grows, Expanded, finished}
+use Rattle.judge.specs.declared.spread.Along.TheVariants.{All}
+use Rattle.judge.specs.Spread.{here, finished}
+use Rattle.judge.specs.Follows.{Via, Expands}
 
 -- reached, and still to be expanded
 pub record Open (T : Table) (s : Site) (u : ℕ) : Type 0 where
@@ -24,8 +26,7 @@ Picked T s None = NothingOpen T s
 pub record Turned (m : Meaning) (s : Site) (v : ℕ) (T T' : Table) : Type 0 where
   pub mid : Table
   pub marks : Put T mid s.lane s.row v (finished (here T s v))
-  pub grows : Grows m s v mid T'
-  pub all : Expanded m s v mid T'
+  pub follows : Expands m s All v ((here mid s v).depth + 1) mid T'
 
 -- how many of the first n numbers f leaves out
 abbrev pub missing : (ℕ → Bool) → ℕ → ℕ

@@ -9,7 +9,7 @@ use Rattle.guide.specs.Layout.{Table, blank}
 use Rattle.judge.specs.declared.table.Site.{Site}
 use Rattle.judge.specs.Tables.{Others}
 use Rattle.judge.specs.Spread.{here, finished}
-use Rattle.judge.specs.Rows.{Start, HopMarkedBy, from_one, from_row}
+use Rattle.judge.specs.Rows.{Start, from_one, from_row}
 
 abbrev pub plain_site : ℕ → ℕ → Site
 plain_site P i = record { structure = i; places = P; lane = Plain; row = i }
@@ -34,11 +34,6 @@ Seeded s Q T = (u : ℕ) → (here T s u ≡ blank) ⊎ Seed Q u (here T s u)
 pub record Sown (s : Site) (Q : Start) (T T' : Table) : Type 0 where
   pub others : Others T T' s.lane s.row
   pub each : (u : ℕ) → (here T' s u ≡ here T s u) ⊎ (((here T s u).reached ≡ false) × Seed Q u (here T' s u))
-
--- the marked hops of the box v by the exits below n are seeds
-pub record SownBy (m : Meaning) (s : Site) (v d n : ℕ) (T T' : Table) : Type 0 where
-  pub sown : Sown s (from_one m s.structure v d) T T'
-  pub below : (e w : ℕ) → e < n → HopMarkedBy m s.structure v e w → (here T' s w).reached ≡ true
 
 -- the marked hops of v are seeds
 pub record SownFrom (m : Meaning) (s : Site) (v d : ℕ) (T T' : Table) : Type 0 where

@@ -1,7 +1,6 @@
 -- How the judge writes a guide: one entry at a time, all else as it was.
 -- Assumes nothing.
-use Rattle.std.specs.Prelude.{◌≡◌, ℕ, ◌+◌, ◌*◌, ◌<◌, ◌≤◌, false, ◌≢◌, List, length}
-use Rattle.hierarchy.specs.Meaning.{Meaning}
+use Rattle.std.specs.Prelude.{◌≡◌, ℕ, ◌+◌, ◌*◌, ◌<◌, ◌≤◌, ◌≢◌, List, length}
 use Rattle.guide.specs.declared.Entry.{Entry}
 use Rattle.guide.specs.declared.GuideRecord.{GuideRecord}
 use Rattle.guide.specs.declared.Lane.{Lane}
@@ -11,12 +10,6 @@ use Rattle.guide.specs.Layout.{Table}
 -- row r stands in the guide
 abbrev pub Stands : List GuideRecord → ℕ → ℕ → Type 0
 Stands g P r = r * P + P ≤ length g
-
--- the guide has room for a judgment of m, whose places are P
-pub record Ready (m : Meaning) (g : List GuideRecord) (P : ℕ) : Type 0 where
-  pub stands : Stands g P m.structures
-  pub fits : m.large ≡ false
-  pub places : P ≡ m.places
 
 -- n is where the place u of row r stands
 pub record Position (g : List GuideRecord) (P r u n : ℕ) : Type 0 where

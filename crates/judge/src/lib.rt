@@ -2,16 +2,16 @@
 // It searches each structure by itself, a few times, in lent memory, and never unfolds the hierarchy.
 #![tactic(auto)]
 
-ghost use Rattle.std.specs.Prelude.{◌≡◌, true, false, length, is_some, is_err};
+ghost use Rattle.std.specs.Prelude.{◌≡◌, true, length, is_some, is_err};
 ghost use Rattle.std.specs.Result.{result_err};
 ghost use Rattle.hierarchy.specs.Flat.{Reaches, Recurs};
 ghost use Rattle.guide.specs.Layout.{look};
-ghost use Rattle.judge.specs.Tables.{Stands, Ready};
-ghost use Rattle.judge.specs.Rows.{Behind};
-ghost use Rattle.judge.specs.Known.{Knows, Decides};
+ghost use Rattle.judge.specs.Rows.{AllRows};
+ghost use Rattle.judge.specs.Known.{AllKnown, Decides};
 ghost use Rattle.judge.specs.Piles.{JudgedAsPile};
 ghost use Rattle.judge.specs.Verdicts.{judge_refusal, home_of, OnVerdict, Guides, Finds};
 
+mod judged;
 mod known;
 mod nested;
 mod ring;
@@ -19,9 +19,7 @@ mod rows;
 mod spread;
 mod table;
 
-use crate::known::{know_all, marked_any};
-use crate::ring::{point, ring_any};
-use crate::rows::fill;
+use crate::judged::Judged;
 use guide::GuideRecord;
 use hierarchy::{Hierarchy, Refusal, Size};
 
@@ -49,24 +47,15 @@ pub struct Verdict {
     pub recur: Option<FoundMark>,
 }
 
-fn find_ring<B: Hierarchy>(
-    h: &B,
-    guide: &mut [GuideRecord],
-    structures: usize,
-    places: usize,
-) -> Option<FoundMark>
-    requires ready { Ready (B.Hierarchy.meaning h.now) guide.old places }
-    requires structures { structures ≡ (B.Hierarchy.meaning h.now).structures }
-    requires behind { Behind (B.Hierarchy.meaning h.now) 0 (look guide.old places) }
-    requires knows { Knows (B.Hierarchy.meaning h.now) (B.Hierarchy.meaning h.now).structures (look guide.old places) }
-    ensures { Finds (B.Hierarchy.meaning h.now) guide.new result }
-{
-    match ring_any(h, guide, structures, places) {
-        Some(ring) => {
-            point(guide, structures, places, ring);
-            Some(FoundMark { home: ring.home })
-        }
-        None => None,
+impl<'a, B: Hierarchy> Judged<'a, B> {
+    fn find_ring(&self, guide: &mut [GuideRecord]) -> Option<FoundMark>
+        requires rows { AllRows (B.Hierarchy.meaning self.now.h.now) guide.old self.now.places self.now.structures }
+        requires knows { AllKnown (B.Hierarchy.meaning self.now.h.now) (look guide.old self.now.places) }
+        ensures { Finds (B.Hierarchy.meaning self.now.h.now) guide.new result }
+    {
+        let ring = self.ring_any(guide)?;
+        self.point(guide, ring);
+        Some(FoundMark { home: ring.home })
     }
 }
 
@@ -86,15 +75,18 @@ pub fn judge<B: Hierarchy>(h: &B, guide: &mut [GuideRecord]) -> Result<Verdict, 
     ensures piles { JudgedAsPile (B.Hierarchy.meaning h.now) (length guide.old) result }
     ensures guides { OnVerdict (λ v. Guides (B.Hierarchy.meaning h.now) guide.new v.recur) result }
 {
-    let Size::Fits(structures, places) = h.size() else {
-        return Err(Refusal::TooLarge);
-    };
+    let Size { structures, places } = h.size().ok_or(Refusal::TooLarge)?;
     if guide.len() < (structures + 1) * places {
         return Err(Refusal::TooLittleMemory);
     }
-    fill(h, guide, structures, places);
-    know_all(h, guide, structures, places);
-    let reach = marked_any(h, guide, structures, places);
-    let recur = find_ring(h, guide, structures, places);
+    let judged = Judged {
+        h,
+        structures,
+        places,
+    };
+    judged.fill(guide);
+    judged.know_all(guide);
+    let reach = judged.marked_any(guide);
+    let recur = judged.find_ring(guide);
     Ok(Verdict { reach, recur })
 }

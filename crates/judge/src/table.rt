@@ -4,9 +4,9 @@ ghost use Rattle.std.specs.Prelude.{◌≡◌, ℕ, ◌<◌};
 ghost use Rattle.guide.specs.Layout.{look, blank};
 ghost use Rattle.judge.specs.Tables.{Stands, Position, Put, Others, with_lane_lem};
 ghost use Rattle.judge.specs.Ring.{Aimed};
-ghost use Rattle.judge.specs.Spread.{here, or_entry, child as child_entry};
+ghost use Rattle.judge.specs.Spread.{here, finished, child as child_entry};
 
-use guide::{Entry, GuideRecord, Lane};
+use guide::{Entry, GuideRecord, Lane, entry_at};
 
 // Where a search takes place: the structure, and the tree and the row that it fills.
 #[derive(Clone, Copy)]
@@ -17,31 +17,13 @@ pub struct Site {
     pub row: usize,
 }
 
+// Where an entry is written. Reading needs no such place: past the end of memory it gives a blank entry.
 fn position(guide: &[GuideRecord], places: usize, row: usize, place: usize) -> usize
     requires stands { Stands guide.now places row }
     requires inside { place < places }
     ensures { Position guide.now places row place result }
 {
     row * places + place
-}
-
-pub(crate) fn get(
-    guide: &[GuideRecord],
-    places: usize,
-    lane: Lane,
-    row: usize,
-    place: usize,
-) -> Entry
-    requires stands { Stands guide.now places row }
-    requires inside { place < places }
-    ensures { result ≡ look guide.now places lane row place }
-{
-    let found = guide[position(guide, places, row, place)];
-    match lane {
-        Lane::Plain => found.plain,
-        Lane::Marked => found.marked,
-        Lane::Up => found.up,
-    }
 }
 
 fn with_lane(old: GuideRecord, lane: Lane, cell: Entry) -> GuideRecord
@@ -73,28 +55,6 @@ pub(crate) fn put(
     guide[at] = with_lane(guide[at], lane, cell);
 }
 
-// Writes the entry unless the place is reached already.
-pub(crate) fn reach_one(guide: &mut [GuideRecord], site: Site, cell: Entry, place: usize)
-    requires stands { Stands guide.old site.places site.row }
-    requires inside { place < site.places }
-    ensures { Put (look guide.old site.places) (look guide.new site.places) site.lane site.row place (or_entry (here (look guide.old site.places) site place) cell) }
-{
-    let old = get(guide, site.places, site.lane, site.row, place);
-    if !old.reached {
-        put(guide, site.places, site.lane, site.row, place, cell);
-    }
-}
-
-pub(crate) fn clear(guide: &mut [GuideRecord], places: usize, lane: Lane, row: usize)
-    requires stands { Stands guide.old places row }
-    ensures others { Others (look guide.old places) (look guide.new places) lane row }
-    ensures blank { (u : ℕ) → look guide.new places lane row u ≡ blank }
-{
-    for u in 0..places {
-        put(guide, places, lane, row, u, Entry::blank());
-    }
-}
-
 pub(crate) fn child(from: usize, via: usize, depth: usize) -> Entry
     ensures { result ≡ child_entry from via depth }
 {
@@ -117,4 +77,42 @@ pub(crate) fn set_aim(guide: &mut [GuideRecord], places: usize, row: usize, aim:
 {
     let at = position(guide, places, row, 0);
     guide[at] = GuideRecord { aim, ..guide[at] };
+}
+
+impl Site {
+    pub(crate) fn get(self, guide: &[GuideRecord], place: usize) -> Entry
+        ensures { result ≡ here (look guide.now self.places) self place }
+    {
+        entry_at(guide, self.places, self.lane, self.row, place)
+    }
+
+    pub(crate) fn put(self, guide: &mut [GuideRecord], place: usize, cell: Entry)
+        requires stands { Stands guide.old self.places self.row }
+        requires inside { place < self.places }
+        ensures { Put (look guide.old self.places) (look guide.new self.places) self.lane self.row place cell }
+    {
+        put(guide, self.places, self.lane, self.row, place, cell);
+    }
+
+    // Marks the place as done, and gives its entry as it was.
+    pub(crate) fn finish(self, guide: &mut [GuideRecord], place: usize) -> Entry
+        requires stands { Stands guide.old self.places self.row }
+        requires inside { place < self.places }
+        ensures was { result ≡ here (look guide.old self.places) self place }
+        ensures done { Put (look guide.old self.places) (look guide.new self.places) self.lane self.row place (finished result) }
+    {
+        let old = self.get(guide, place);
+        self.put(guide, place, Entry { done: true, ..old });
+        old
+    }
+
+    pub(crate) fn clear(self, guide: &mut [GuideRecord])
+        requires stands { Stands guide.old self.places self.row }
+        ensures others { Others (look guide.old self.places) (look guide.new self.places) self.lane self.row }
+        ensures blank { (u : ℕ) → here (look guide.new self.places) self u ≡ blank }
+    {
+        for u in 0..self.places {
+            self.put(guide, u, Entry::blank());
+        }
+    }
 }

@@ -1,2 +1,4 @@
-pub mod Layers
-pub mod Piles
+pub mod Fitting
+pub mod Large
+pub mod Numbers
+pub mod Sizes

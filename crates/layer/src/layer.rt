@@ -1,18 +1,20 @@
 // A monitor laid over a hierarchy is again a hierarchy: the product of both.
 // The monitor stays as it was when it was laid.
-ghost use Rattle.std.specs.Prelude.{◌≡◌, ◌*◌, ◌≤◌, ◌||◌, ltb, if◌then◌else◌, nat_lt};
-ghost use Rattle.hierarchy.specs.declared.Size.TheVariants.{TooLarge, Fits};
+ghost use Rattle.std.specs.Prelude.{◌≡◌};
 ghost use Rattle.monitor.specs.Product.{product};
 ghost use Rattle.monitor.specs.Tables.{automaton_of};
 ghost use Rattle.layer.specs.Lawful.{layer_lawful};
+ghost use Rattle.layer.specs.Piles.{pile};
 
+use crate::pile::Pile;
 use hierarchy::{Hierarchy, Look, Place, Size};
 use monitor::Monitor;
+use std::slice;
 
-// Exits, edges and leaves are asked below before the size is, so that most answers of no cost one question below. Each
-// layer at least doubles both sizes, so that at most ten stand on one another before they are too large. Over k layers a
-// size, place, entry or exit costs at most k + 1 questions to the hierarchy at the bottom, a look about k * k / 2, and an
-// edge or a leave that is there about k * k * k / 6. A pile asks less.
+// It answers as the pile of its one monitor does. Each layer at least doubles both sizes, so that at most ten stand on
+// one another before they are too large. Over k layers a size, place, entry or exit costs at most k + 1 questions to the
+// hierarchy at the bottom, a look about k * k / 2, and an edge or a leave that is there about k * k * k / 6. A pile asks
+// less.
 #[derive_where(Clone, Copy)]
 pub struct Layer<'a, B> {
     below: &'a B,
@@ -30,6 +32,12 @@ impl<'a, B: Hierarchy> Layer<'a, B> {
             monitor: *monitor,
         }
     }
+
+    fn pile(&self) -> Pile<'_, B>
+        ensures { pile result.monitors.now (B.Hierarchy.meaning result.base.now) ≡ product (B.Hierarchy.meaning self.now.below.now) (automaton_of self.now.monitor) }
+    {
+        Pile::new(self.below, slice::from_ref(&self.monitor))
+    }
 }
 
 impl<'a, B: Hierarchy> Hierarchy for Layer<'a, B> {
@@ -37,119 +45,31 @@ impl<'a, B: Hierarchy> Hierarchy for Layer<'a, B> {
 
     ghost lawful = { λ x. layer_lawful x.monitor (B.Hierarchy.lawful x.below.now) };
 
-    fn size(&self) -> Size {
-        let Size::Fits(structures, places) = self.below.size() else {
-            return Size::TooLarge;
-        };
-        sizes_above(structures, places, self.monitor.width())
+    fn size(&self) -> Option<Size> {
+        self.pile().size()
     }
 
     fn place(&self, i: usize, p: usize) -> Place {
-        let Size::Fits(_, _) = self.size() else {
-            return Place::Absent;
-        };
-        let f = self.monitor.width();
-        match self.below.place(i / f, p / f) {
-            Place::Absent => Place::Absent,
-            Place::Node => Place::Node,
-            Place::Box(j) => Place::Box(j * f + p % f),
-        }
+        self.pile().place(i, p)
     }
 
     fn entry(&self, i: usize) -> usize {
-        let Size::Fits(structures, _) = self.size() else {
-            return 0;
-        };
-        if i >= structures {
-            return 0;
-        }
-        let f = self.monitor.width();
-        self.below.entry(i / f) * f + i % f
+        self.pile().entry(i)
     }
 
     fn is_exit(&self, i: usize, p: usize) -> bool {
-        let f = self.monitor.width();
-        if !self.below.is_exit(i / f, p / f) {
-            return false;
-        }
-        match self.size() {
-            Size::Fits(_, _) => true,
-            Size::TooLarge => false,
-        }
+        self.pile().is_exit(i, p)
     }
 
     fn look(&self, i: usize, p: usize) -> Look {
-        let Size::Fits(_, _) = self.size() else {
-            return Look {
-                letter: 0,
-                mark: false,
-            };
-        };
-        let f = self.monitor.width();
-        let look = self.below.look(i / f, p / f);
-        if !self.monitor.marks(p) {
-            return Look {
-                letter: look.letter,
-                mark: false,
-            };
-        }
-        match self.below.place(i / f, p / f) {
-            Place::Node => Look {
-                letter: look.letter,
-                mark: true,
-            },
-            _ => Look {
-                letter: look.letter,
-                mark: false,
-            },
-        }
+        self.pile().look(i, p)
     }
 
     fn has_edge(&self, i: usize, p: usize, w: usize) -> bool {
-        let f = self.monitor.width();
-        if !self.below.has_edge(i / f, p / f, w / f) {
-            return false;
-        }
-        let Size::Fits(_, _) = self.size() else {
-            return false;
-        };
-        let left = self.below.look(i / f, p / f);
-        self.monitor.moves(left, p, w)
+        self.pile().has_edge(i, p, w)
     }
 
     fn has_leave(&self, i: usize, b: usize, e: usize, w: usize) -> bool {
-        let f = self.monitor.width();
-        if !self.below.has_leave(i / f, b / f, e / f, w / f) {
-            return false;
-        }
-        let Size::Fits(_, _) = self.size() else {
-            return false;
-        };
-        match self.below.place(i / f, b / f) {
-            Place::Box(j) => {
-                let left = self.below.look(j, e / f);
-                self.monitor.moves(left, e, w)
-            }
-            _ => false,
-        }
+        self.pile().has_leave(i, b, e, w)
     }
-}
-
-// The sizes below, multiplied, unless one is then more than a hierarchy may have.
-pub(crate) fn sizes_above(structures: usize, places: usize, width: usize) -> Size
-    requires { (structures ≤ 1024) × ((places ≤ 1024) × (width ≤ 8)) }
-    ensures { result ≡ (if ltb 1024 (structures * width) || nat_lt 1024 (places * width) then TooLarge else Fits (structures * width) (places * width)) }
-{
-    if exceeds(structures, width) | exceeds(places, width) {
-        return Size::TooLarge;
-    }
-    Size::Fits(structures * width, places * width)
-}
-
-// Whether a size below, multiplied, is more than a hierarchy may have.
-fn exceeds(size: usize, width: usize) -> bool
-    requires { (size ≤ 1024) × (width ≤ 8) }
-    ensures { result ≡ nat_lt 1024 (size * width) }
-{
-    size * width > 1024
 }

@@ -4,6 +4,7 @@
 
 mod layer;
 mod pile;
+mod spread;
 
 pub use layer::Layer;
 pub use pile::Pile;

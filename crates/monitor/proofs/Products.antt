@@ -38,7 +38,7 @@ kind_absent f k absent e = e
 kind_absent f k node e = e
 kind_absent f k (box j) e = absurd (let z : ◌≡◌ {A = ℕ} 0 1 = cc in omega arith)
 
-kind_box : (f k J : ℕ) (s : Kind) → kind_above f k s ≡ box J → (j : ℕ) × (s ≡ box j) × (J ≡ j * f + k)
+pub kind_box : (f k J : ℕ) (s : Kind) → kind_above f k s ≡ box J → (j : ℕ) × (s ≡ box j) × (J ≡ j * f + k)
 kind_box f k J absent e = absurd (let z : ◌≡◌ {A = ℕ} 0 1 = cc in omega arith)
 kind_box f k J node e = absurd (let z : ◌≡◌ {A = ℕ} 0 1 = cc in omega arith)
 kind_box f k J (box j) e = (j, refl, cc)

@@ -1,13 +1,10 @@
--- What an edit gives, by whether one of its tests holds.
+-- What the edit that makes a state accepting gives, by whether one of its tests holds.
 -- Assumes nothing.
 use Rattle.std.proofs.Common.{◌≡◌, ℕ, ◌<◌, true, false, Ok, Err}
 use Rattle.std.proofs.lemmas.Bool.{lt-ltb}
 use Rattle.hierarchy.specs.declared.refusal.Refusal.TheVariants.{AlreadyThere}
 use Rattle.monitor.specs.Automata.{Automaton}
-use Rattle.monitor.specs.Edits.{state_edit, with_state, accept_edit, with_accepting}
-
-pub state_goes : (a : Automaton) → a.states < 4 → state_edit a ≡ record { automaton = with_state a; answer = Ok a.states }
-state_goes a h = rw (lt-ltb a.states 4 h)
+use Rattle.monitor.specs.Edits.{accept_edit, with_accepting}
 
 pub accept_goes : (a : Automaton) (q : ℕ) → q < a.states → a.accepting q ≡ false → accept_edit a q ≡ record { automaton = with_accepting q a; answer = Ok tt }
 accept_goes a q h e = rw (lt-ltb q a.states h, e)

@@ -32,11 +32,7 @@ impl Monitor {
             return Err(Refusal::Full);
         }
         let number = self.states;
-        *self = Monitor {
-            states: number + 1,
-            steps: self.steps,
-            accepting: self.accepting,
-        };
+        self.states += 1;
         Ok(number)
     }
 
@@ -47,10 +43,10 @@ impl Monitor {
         ensures unchanged { is_ok result ≡ false → self.new ≡ self.old }
         ensures least { Ascends (step_refusals (automaton_of self.old) q care value r) }
     {
-        if (care > 15) | (value > 15) | (value & care != value) {
+        if care > 15 || value > 15 || value & care != value {
             return Err(Refusal::BadStepLetter);
         }
-        if (q >= self.states) | (r >= self.states) {
+        if q >= self.states || r >= self.states {
             return Err(Refusal::NoPlace);
         }
         self.steps = self.steps.with(q, care, value, r);

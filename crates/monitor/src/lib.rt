@@ -13,7 +13,8 @@ mod steps;
 
 pub use replay::MonitorEdit;
 
-// A Büchi automaton with 1 to 4 states, which are numbers from 0 on; 0 is initial. It reads letters, 0 to 15.
+// A Büchi automaton with 1 to 4 states, which are numbers from 0 on; 0 is initial. It reads letters, 0 to 15. It is copied,
+// and has no memory of its own: its flags lie in an array.
 #[derive(Clone, Copy)]
 pub struct Monitor {
     states: usize,

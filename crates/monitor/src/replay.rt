@@ -7,7 +7,7 @@ ghost use Rattle.monitor.specs.Tables.{automaton_of};
 use crate::Monitor;
 use hierarchy::Refusal;
 
-#[derive(Clone, Copy)]
+#[derive(Clone, Copy, PartialEq, Eq, Debug)]
 pub enum MonitorEdit {
     State,
     Step {
@@ -29,10 +29,7 @@ impl Monitor {
         ensures unchanged { is_ok result ≡ false → self.new ≡ self.old }
     {
         match edit {
-            MonitorEdit::State => match self.state() {
-                Ok(_) => Ok(()),
-                Err(refusal) => Err(refusal),
-            },
+            MonitorEdit::State => self.state().map(|_| ()),
             MonitorEdit::Step { q, care, value, r } => self.step(q, care, value, r),
             MonitorEdit::Accept { q } => self.accept(q),
         }

@@ -4,6 +4,7 @@ ghost use Rattle.std.specs.Prelude.{◌≡◌, ◌<◌};
 ghost use Rattle.monitor.specs.Edits.{no_steps, stepped};
 ghost use Rattle.monitor.specs.Tables.{steps_of};
 
+// The cells stand in one array, since a literal of a struct with an array of arrays gets no proof yet.
 #[derive(Clone, Copy)]
 pub struct Steps {
     cells: [bool; 256],
@@ -19,6 +20,7 @@ impl Steps {
     }
 
     // Whether `r` may follow `q` by the letter.
+    #[tactic(auto, using(std::proofs::lemmas::Bool::Decides::nat_tests), unfolding(crate::specs::Tables::steps_of))]
     pub(crate) fn has(&self, q: usize, letter: u8, r: usize) -> bool
         ensures { result ≡ steps_of self.now q letter r }
     {

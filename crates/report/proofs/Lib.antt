@@ -1,4 +1,4 @@
-mod Writings
+mod Pushed
 mod Pieces
 mod Runs
 mod Walked

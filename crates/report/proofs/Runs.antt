@@ -1,36 +1,30 @@
--- The lines of a run, one after another, and how long they are.
+-- The lines of a run, one after another, and room for one more.
 -- Assumes nothing.
-use Rattle.std.proofs.Common.{◌≡◌, ℕ, zero, suc, ◌+◌, ◌<◌, List, [], ◌++◌, sym, refl, ap, ◌∙◌, subst, add-one, arith}
+use Rattle.std.proofs.Common.{◌≡◌, ℕ, zero, suc, ◌<◌, List, ◌++◌, sym, append-nil, subst, arith}
 use native.Mathlib.Decide.{ℕ_discrete}
-use Rattle.std.proofs.lemmas.List.{append_assoc, append-nil}
 use Rattle.hierarchy.specs.Meaning.{Meaning}
 use Rattle.hierarchy.specs.Flat.{State}
 use Rattle.report.specs.Text.{state_line, run_lines}
 use Rattle.report.specs.Writing.{Room}
-use Rattle.report.proofs.Writings.{room_first}
+use Rattle.report.proofs.Pushed.{room_first, room_rest, both}
 
--- the first line, and those of the run after it
-pub lines_first : (m : Meaning) (s : ℕ → State) (n : ℕ) → run_lines m s (suc n) ≡ state_line m (s 0) ++ run_lines m (λ k. s (suc k)) n
+-- none is written yet
+pub lines_none : {a : List ℕ} (m : Meaning) (s : ℕ → State) → a ≡ a ++ run_lines m s 0
 unfolding run_lines
-lines_first m s zero = sym (append-nil (state_line m (s 0)))
-lines_first m s (suc n) =
-    ap (λ t. t ++ state_line m (s (suc n))) (lines_first m s n) ∙ append_assoc (state_line m (s 0)) (run_lines m (λ k. s (suc k)) n) (state_line m (s (suc n)))
+lines_none {a} m s = sym (append-nil a)
 
 -- one line more
-pub lines_more : (m : Meaning) (s : ℕ → State) (n : ℕ) → run_lines m s (n + 1) ≡ run_lines m s n ++ state_line m (s n)
+pub lines_more : (a : List ℕ) {b c : List ℕ} (m : Meaning) (s : ℕ → State) (n : ℕ) → b ≡ a ++ run_lines m s n → c ≡ b ++ state_line m (s n) → c ≡ a ++ run_lines m s (suc n)
 unfolding run_lines
-lines_more m s n = rw add-one refl
-
-pub lines_none : (m : Meaning) (s : ℕ → State) → run_lines m s 0 ≡ []
-unfolding run_lines
-lines_none m s = refl
+lines_more a m s n e f = both a (run_lines m s n) (state_line m (s n)) e f
 
 -- room for more lines is room for one more than n
-pub lines_room : {xs : List ℕ} {i : ℕ} (m : Meaning) (s : ℕ → State) (n k : ℕ) → n < k → Room xs i (run_lines m s k) → Room xs i (run_lines m s n ++ state_line m (s n))
+pub lines_room : {l : ℕ} {a b : List ℕ} (m : Meaning) (s : ℕ → State) (n k : ℕ) → n < k → Room l a (run_lines m s k) → b ≡ a ++ run_lines m s n → Room l b (state_line m (s n))
 unfolding run_lines
-lines_room m s n zero h r = absurd (omega arith)
-lines_room {xs} {i} m s n (suc k) h r = go (ℕ_discrete n k) (λ l. lines_room m s n k l (room_first (run_lines m s k) (state_line m (s k)) r))
+lines_room m s n zero h r e = absurd (omega arith)
+lines_room {l} {a} {b} m s n (suc k) h r e = go (ℕ_discrete n k) (λ x. lines_room m s n k x (room_first (run_lines m s k) (state_line m (s k)) r) e)
   where
-    go : Dec (n ≡ k) → (n < k → Room xs i (run_lines m s n ++ state_line m (s n))) → Room xs i (run_lines m s n ++ state_line m (s n))
-    go (yes e) f = subst (λ (j : ℕ). Room xs i (run_lines m s j ++ state_line m (s j))) (sym e) r
+    go : Dec (n ≡ k) → (n < k → Room l b (state_line m (s n))) → Room l b (state_line m (s n))
+    go (yes q) f =
+        room_rest (run_lines m s n) (state_line m (s n)) (subst (λ (j : ℕ). Room l a (run_lines m s j ++ state_line m (s j))) (sym q) r) e
     go (no x) f = f (omega (arith, h, x))

@@ -40,11 +40,6 @@ abbrev pub Prints : Meaning → List ℕ → List ℕ → Result ℕ Refusal →
 Prints m old new (Ok n) = Printed m old new n
 Prints m old new (Err e) = Unit {0}
 
--- a report is printed, and not refused
-abbrev pub PrintsAlways : Meaning → List ℕ → List ℕ → Result ℕ Refusal → Type 0
-PrintsAlways m old new (Ok n) = Printed m old new n
-PrintsAlways m old new (Err e) = ⊥
-
 -- reachable states have fewer boxes than a chart may have structures
 abbrev pub FewBoxes : Meaning → Type 0
 FewBoxes m = (s : State) → Reach m 0 s → boxes s < 32

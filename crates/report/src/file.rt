@@ -2,13 +2,12 @@
 // The chart is judged under the monitor if the file has a record of one.
 ghost use Rattle.std.specs.Prelude.{◌≡◌, ◌≤◌, true, length, is_err, MatchResult};
 ghost use Rattle.std.specs.Result.{result_err};
-ghost use Rattle.chartfile.specs.Files.{drawing};
-ghost use Rattle.report.specs.Judged.{judged_as};
+ghost use Rattle.report.specs.Judged.{judged};
 ghost use Rattle.report.specs.FileReports.{file_refusal, PrintsFile, TellsJudged};
 
-use crate::judged::OUTPUT;
 use crate::refused::{fault_text, refusal_text};
-use crate::{report_chart, report_monitored};
+use crate::report;
+use crate::text::OUTPUT;
 use chart::Chart;
 use chartfile::load;
 use guide::GuideRecord;
@@ -35,30 +34,25 @@ pub fn report_file(
     let mut chart = Chart::new();
     let mut monitor = Monitor::new();
     match load(input, &mut chart, &mut monitor) {
-        Ok(watched) => tell(&chart, &monitor, watched, guide, frames, output),
+        Ok(watched) => tell(&chart, watched.then_some(&monitor), guide, frames, output),
         Err(fault) => fault_text(fault, output),
     }
 }
 
-// Writes the report of a chart, under the monitor if it is watched, or the line of why there is none.
+// Writes the report of a chart, under a monitor if one is given, or the line of why there is none.
 fn tell(
     chart: &Chart,
-    monitor: &Monitor,
-    watched: bool,
+    monitor: Option<&Monitor>,
     guide: &mut [GuideRecord],
     frames: &mut [Frame],
     output: &mut [u8],
 ) -> Result<usize, Refusal>
     requires { 2048 ≤ length output.old }
-    ensures { MatchResult result (λ n. TellsJudged (judged_as (drawing chart.now monitor.now) watched) (length guide.old) (length frames.old) output.old output.new n) (λ _. ⊥) }
+    ensures { MatchResult result (λ n. TellsJudged (judged chart.now monitor.entry) (length guide.old) (length frames.old) output.old output.new n) (λ _. ⊥) }
 {
-    let told = if watched {
-        report_monitored(chart, monitor, guide, frames, output)
-    } else {
-        report_chart(chart, guide, frames, output)
-    };
-    match told {
-        Ok(count) => Ok(count),
+    // in place of `or_else`: what a closure leaves in memory that it borrowed is not known afterwards
+    match report(chart, monitor, guide, frames, output) {
         Err(refusal) => refusal_text(refusal, output),
+        reported => reported,
     }
 }

@@ -30,6 +30,7 @@ use walk::Frame;
 
 // Reports on a chart: writes all that is printed to the front of the output, and answers how many bytes that is. It
 // needs (S + 1) × P guide records, S frames and 2,048 bytes of output. Guide records and frames are free afterwards.
+#[tactic(auto, using(crate::proofs::Bounds::chart_boxes))]
 pub fn report_chart(
     chart: &Chart,
     guide: &mut [GuideRecord],
@@ -44,6 +45,7 @@ pub fn report_chart(
 }
 
 // Reports on a chart with a monitor laid over it; sizes and states are those of the layer.
+#[tactic(auto, using(crate::proofs::Bounds::layer_fits, crate::proofs::Bounds::layer_boxes))]
 pub fn report_monitored(
     chart: &Chart,
     monitor: &Monitor,

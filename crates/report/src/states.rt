@@ -1,12 +1,13 @@
 // The first six states of a walk, a line each.
-ghost use Rattle.std.specs.Prelude.{◌≡◌, true, length, is_ok, None};
+ghost use Rattle.std.specs.Prelude.{◌≡◌, ◌++◌, length, None, MatchResult};
 ghost use Rattle.guide.specs.Trees.{Good};
 ghost use Rattle.judge.specs.Verdicts.{home_of};
 ghost use Rattle.walk.specs.Steps.{lacking, guide_home};
-ghost use Rattle.report.specs.Writing.{Room, WroteSome};
+ghost use Rattle.report.specs.Writing.{Room};
 ghost use Rattle.report.specs.Text.{walk_state, run_lines};
 
-use crate::lines::write_state;
+use crate::lines::push_state;
+use crate::text::ReportText;
 use guide::GuideRecord;
 use hierarchy::{Hierarchy, Refusal};
 use judge::FoundMark;
@@ -16,24 +17,23 @@ use walk::{Frame, start};
 const STEPS: usize = 5;
 
 // The states 0 to 5 of the walk that the found mark starts. By a good guide no step is refused.
-pub(crate) fn write_states<B: Hierarchy>(
-    output: &mut [u8],
-    at: usize,
+pub(crate) fn push_states<B: Hierarchy>(
+    text: &mut ReportText,
     h: &B,
     guide: &[GuideRecord],
     frames: &mut [Frame],
     found: FoundMark,
-) -> Result<usize, Refusal>
+) -> Result<(), Refusal>
     requires good { Good (B.Hierarchy.meaning h.now) (guide_home (B.Hierarchy.meaning h.now) guide.now (home_of found)) }
     requires memory { lacking (B.Hierarchy.meaning h.now) (length guide.now) (length frames.old) ≡ None }
-    requires room { Room output.old at (run_lines (B.Hierarchy.meaning h.now) (walk_state (B.Hierarchy.meaning h.now) guide.now (home_of found)) 6) }
-    ensures written { WroteSome output.old at (run_lines (B.Hierarchy.meaning h.now) (walk_state (B.Hierarchy.meaning h.now) guide.now (home_of found)) 6) output.new result }
+    requires room { Room 2048 text.old.bytes (run_lines (B.Hierarchy.meaning h.now) (walk_state (B.Hierarchy.meaning h.now) guide.now (home_of found)) 6) }
+    ensures { MatchResult result (λ _. text.new.bytes ≡ text.old.bytes ++ run_lines (B.Hierarchy.meaning h.now) (walk_state (B.Hierarchy.meaning h.now) guide.now (home_of found)) 6) (λ _. ⊥) }
 {
     let mut walk = start(found);
-    let mut end = write_state(output, at, &walk, h, frames);
-    for i in 0..STEPS {
+    push_state(text, &walk, h, frames);
+    for _ in 0..STEPS {
         walk.step(h, guide, frames)?;
-        end = write_state(output, end, &walk, h, frames);
+        push_state(text, &walk, h, frames);
     }
-    Ok(end)
+    Ok(())
 }

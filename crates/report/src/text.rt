@@ -1,34 +1,31 @@
-// Writing text into lent memory, piece after piece. Each call answers where its piece ends.
-// Bytes before and behind the piece keep what they held.
-ghost use Rattle.std.specs.Prelude.{◌≡◌, ◌+◌, ◌^◌, ◌<◌, ◌≤◌, [], ◌∷◌, length, decimal};
-ghost use Rattle.report.specs.Writing.{Room, Wrote};
+// Text that is built in a value of fixed size, with numbers in decimal, and then put to the front of lent memory.
+ghost use Rattle.std.specs.Prelude.{◌≡◌, ◌≤◌, ◌++◌, length, decimal};
+ghost use Rattle.report.specs.Writing.{Room};
+ghost use Rattle.report.specs.Refused.{Given};
 
-pub(crate) fn write_byte(output: &mut [u8], at: usize, byte: u8) -> usize
-    requires { Room output.old at (byte ∷ []) }
-    ensures { Wrote output.old at (byte ∷ []) output.new result }
-{
-    output[at] = byte;
-    at + 1
-}
+use arrayvec::ArrayString;
+use itoa::Buffer;
 
-pub(crate) fn write_bytes(output: &mut [u8], at: usize, bytes: &[u8]) -> usize
-    requires { Room output.old at bytes.now }
-    ensures { Wrote output.old at bytes.now output.new result }
-{
-    let end = at + bytes.len();
-    output[at..end].copy_from_slice(bytes);
-    end
-}
+// How many bytes of output a report needs at least, whatever it prints.
+pub(crate) const OUTPUT: usize = 2048;
+
+// A report while it is built.
+pub(crate) type ReportText = ArrayString<OUTPUT>;
 
 // A number in decimal.
-pub(crate) fn write_number(output: &mut [u8], at: usize, n: usize) -> usize
-    requires { Room output.old at (decimal n) }
-    ensures { Wrote output.old at (decimal n) output.new result }
+pub(crate) fn push_number<const N: usize>(text: &mut ArrayString<N>, n: usize)
+    requires { Room N text.old.bytes (decimal n) }
+    ensures { text.new.bytes ≡ text.old.bytes ++ decimal n }
 {
-    let last = b'0' + (n % 10) as u8;
-    if n < 10 {
-        return write_byte(output, at, last);
-    }
-    let end = write_number(output, at, n / 10);
-    write_byte(output, end, last)
+    text.push_str(Buffer::new().format(n));
+}
+
+// Copies a text to the front of the output, and answers how long it is. What is behind it stays.
+pub(crate) fn put_front<const N: usize>(text: &ArrayString<N>, output: &mut [u8]) -> usize
+    requires { N ≤ length output.old }
+    ensures { Given text.now.bytes output.old output.new result }
+{
+    let count = text.len();
+    output[..count].copy_from_slice(text.as_bytes());
+    count
 }

@@ -33,10 +33,10 @@ fn the_sample_is_printed(rt: HostRuntime) -> Result<(), Fault> {
     let mut guide = [GuideRecord::blank(); 9];
     let mut frames = [Frame::blank(); 2];
     let mut output = [b'#'; 2048];
-    match report_chart(&chart, &mut guide, &mut frames, &mut output) {
-        Ok(n) => assert_eq!(rt; n, 50),
-        Err(_) => assert!(rt; false),
-    }
+    assert_eq!(rt;
+        report_chart(&chart, &mut guide, &mut frames, &mut output),
+        Ok(50)
+    );
     assert!(rt; output.starts_with(TEXT));
     Ok(())
 }
@@ -47,10 +47,10 @@ fn a_layer_is_printed_by_its_own_size(rt: HostRuntime) -> Result<(), Fault> {
     let mut guide = [GuideRecord::blank(); 30];
     let mut frames = [Frame::blank(); 4];
     let mut output = [b'#'; 2048];
-    match report_monitored(&chart, &monitor, &mut guide, &mut frames, &mut output) {
-        Ok(n) => assert_eq!(rt; n, 27),
-        Err(_) => assert!(rt; false),
-    }
+    assert_eq!(rt;
+        report_monitored(&chart, &monitor, &mut guide, &mut frames, &mut output),
+        Ok(27)
+    );
     assert!(rt; output.starts_with(LAYER_TEXT));
     Ok(())
 }

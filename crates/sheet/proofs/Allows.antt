@@ -2,13 +2,13 @@
 use Rattle.std.proofs.Common.{◌≡◌, ℕ, ◌<◌, Bool, true, false, cond, ◌&&◌, ltb, List, [], ◌∷◌, length, Some, None, Option, sym, refl, ap, ◌∙◌, ⊎_elim, arith}
 use Rattle.std.specs.List.{slice_get}
 use Rattle.std.proofs.lemmas.Option.{slice_get_past}
-use Rattle.std.proofs.lemmas.Bool.{cases_lt, and_parts, and_from, not-false, ltb-true, lt-ltb, false≢true}
+use Rattle.std.proofs.lemmas.Bool.{cases_lt, and_parts, and_from, not-false, ltb-true, false≢true}
 use Rattle.hierarchy.specs.declared.refusal.Refusal.{Refusal}
 use Rattle.sheet.specs.declared.Spot.{Spot}
 use Rattle.sheet.specs.declared.Spot.TheVariants.{Box}
-use Rattle.sheet.specs.Sheet.{Structure, Sheet, at, present, node?, box?, exit?, inner, look}
+use Rattle.sheet.specs.Sheet.{Sheet, at, present, node?, box?, exit?, inner, look}
 use Rattle.hierarchy.specs.Refusals.{Refusals, first}
-use Rattle.sheet.specs.Edits.{already, node_refusals, box_refusals, exit_refusals, look_refusals, edge_refusals, leave_refusals}
+use Rattle.sheet.specs.Edits.{node_refusals, box_refusals, exit_refusals, look_refusals, edge_refusals, leave_refusals}
 use Rattle.sheet.specs.Laws.{later, edge_stands, leave_stands}
 
 pub test_below : (f : Option Spot → Bool) → f None ≡ false → (ps : List Spot) (p : ℕ) → f (slice_get ps p) ≡ true → p < length ps
@@ -43,16 +43,6 @@ edge_may s i p w v h =
       to = ltb-true _ _ x.1;
       stands = and_from (node? (slice_get (at s i).places p)) (present (at s i) w) (not-false _ t.1.1.0) x.1;
     }
-
--- the tests of an edge but the last are past
-pub edge_last : (s : Sheet) (r : Structure) (i p w : ℕ) (v : Bool) → r ≡ at s i → i < length s → p < length r.places → w < length r.places → node? (slice_get r.places p) ≡ true
-    → first (already v (r.edge p w) ∷ []) ≡ first (edge_refusals s i p w v)
-edge_last s r i p w v e a b c d =
-    let x : ltb i (length s) ≡ true = lt-ltb i (length s) a in
-    let y : present (at s i) p ≡ true = simp e at (lt-ltb p (length r.places) b) in
-    let z : present (at s i) w ≡ true = simp e at (lt-ltb w (length r.places) c) in
-    let n : node? (slice_get (at s i).places p) ≡ true = simp e at d in
-    simp (x, y, z, n, e)
 
 pub record Room (s : Sheet) (i : ℕ) : Type 0 where
   pub within : i < length s
@@ -99,17 +89,6 @@ leave_may s i b e w v h =
       by = test_below exit? refl (at s (inner o)).places e (not-false _ t.1.1.1.0);
       stands = and_from (box? o) (y && present (at s i) w) (not-false _ t.1.1.0) (and_from y (present (at s i) w) (not-false _ t.1.1.1.0) x.1);
     }
-
--- the tests of a leave but the last are past
-pub leave_last : (s : Sheet) (r : Structure) (i b e w : ℕ) (v : Bool) → r ≡ at s i → i < length s → b < length r.places → w < length r.places → box? (slice_get r.places b) ≡ true
-    → exit? (slice_get (at s (inner (slice_get r.places b))).places e) ≡ true → first (already v (r.leave b e w) ∷ []) ≡ first (leave_refusals s i b e w v)
-leave_last s r i b e w v q a c d f g =
-    let x : ltb i (length s) ≡ true = lt-ltb i (length s) a in
-    let y : present (at s i) b ≡ true = simp q at (lt-ltb b (length r.places) c) in
-    let z : present (at s i) w ≡ true = simp q at (lt-ltb w (length r.places) d) in
-    let n : box? (slice_get (at s i).places b) ≡ true = simp q at f in
-    let m : exit? (slice_get (at s (inner (slice_get (at s i).places b))).places e) ≡ true = simp q at g in
-    simp (x, y, z, n, m, q)
 
 pub look_may : (s : Sheet) (i p l : ℕ) → first (look_refusals s i p l) ≡ None → NodeMay s i p
 look_may s i p l h =

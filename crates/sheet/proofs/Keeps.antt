@@ -1,5 +1,6 @@
 -- An edit of one structure that only grows what the laws ask for keeps a sheet sound.
 use Rattle.std.proofs.Common.{◌≡◌, ℕ, zero, suc, ◌<◌, Bool, true, false, ◌&&◌, eqb, ◌≢◌, ◌⊎◌, List, [], ◌∷◌, ◌++◌, length, set, Some, None, Option, sym, refl, ap, ◌∙◌, subst, inl, inr, ⊎_elim, arith}
+use mathlib.Core.Logic.{∥∥₁_map}
 use Rattle.std.specs.List.{slice_get}
 use Rattle.std.proofs.lemmas.List.{length-replicate, get_or-replicate, length-set, length_push, get_or-set_same, get_or-set_other}
 use Rattle.std.proofs.lemmas.Option.{slice_get-get_or}
@@ -46,6 +47,10 @@ keeps s i r h g l = record {
       (λ t. leave_still s i r h g r b e w (g.leaves b e w t))
       (λ j t. leave_still s i r h g (at s j) b e w (l.leaves j b e w t)) k;
 }
+
+-- the same of a structure that is known by an equation
+pub grown_sound : (s : Sheet) (i : ℕ) (r q : Structure) → q ≡ r → i < length s → (Sound s → Grows s i r) → ∥ Sound s ∥₁ → ∥ Sound (set s i q) ∥₁
+grown_sound s i r q e h g t = ∥∥₁_map t (λ l. subst (λ (x : Structure). Sound (set s i x)) (sym e) (keeps s i r h (g l) l))
 
 but_true : (k : ℕ) (v : Bool) (f : ℕ → Bool) (x : ℕ) → but k v f x ≡ true → (f x ≡ true) ⊎ ((x ≡ k) × (v ≡ true))
 but_true k v f x h = ⊎_elim

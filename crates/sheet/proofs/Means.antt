@@ -1,5 +1,5 @@
 -- A sound sheet of a chart's size means a lawful hierarchy.
-use Rattle.std.proofs.Common.{◌≡◌, ℕ, zero, suc, ◌<◌, ◌≤◌, Bool, true, ◌&&◌, ltb, ◌≢◌, List, [], ◌∷◌, length, Some, None, Option, refl, ap, subst, ⊎_elim, arith}
+use Rattle.std.proofs.Common.{◌≡◌, ℕ, zero, suc, ◌<◌, ◌≤◌, Bool, true, false, ◌&&◌, ltb, ◌≢◌, List, [], ◌∷◌, length, Some, None, Option, sym, refl, ap, ◌∙◌, subst, ⊎_elim, arith}
 use mathlib.Core.Bool.{Bool-set}
 use mathlib.Core.Logic.{∥∥₁_elim}
 use Rattle.std.specs.List.{slice_get}
@@ -16,15 +16,14 @@ use Rattle.sheet.proofs.Longest.{at_longest}
 use Rattle.sheet.proofs.Allows.{test_below}
 
 -- ---- one place
-kind_node : (o : Option Spot) → node? o ≡ true → kind o ≡ meaning.node
-kind_node None h = absurd (false≢true h)
-kind_node (Some (Node l x)) h = refl
-kind_node (Some (Box j)) h = absurd (false≢true h)
+-- a test that holds of nodes alone
+only_nodes : (f : Option Spot → Bool) → f None ≡ false → ((j : ℕ) → f (Some (Box j)) ≡ false) → (o : Option Spot) → f o ≡ true → kind o ≡ meaning.node
+only_nodes f n b None h = absurd (false≢true (sym n ∙ h))
+only_nodes f n b (Some (Node l x)) h = refl
+only_nodes f n b (Some (Box j)) h = absurd (false≢true (sym (b j) ∙ h))
 
-exit_kind : (o : Option Spot) → exit? o ≡ true → kind o ≡ meaning.node
-exit_kind None h = absurd (false≢true h)
-exit_kind (Some (Node l x)) h = refl
-exit_kind (Some (Box j)) h = absurd (false≢true h)
+kind_node : (o : Option Spot) → node? o ≡ true → kind o ≡ meaning.node
+kind_node = only_nodes node? refl (λ _. refl)
 
 box_kind : (o : Option Spot) → box? o ≡ true → kind o ≡ meaning.box (inner o)
 box_kind None h = absurd (false≢true h)
@@ -35,11 +34,6 @@ letter_kind : (o : Option Spot) → kind o ≢ meaning.node → letter_of_look (
 letter_kind None h = refl
 letter_kind (Some (Node l x)) h = absurd (h refl)
 letter_kind (Some (Box j)) h = refl
-
-mark_kind : (o : Option Spot) → mark_of_look (look o) ≡ true → kind o ≡ meaning.node
-mark_kind None h = absurd (false≢true h)
-mark_kind (Some (Node l x)) h = refl
-mark_kind (Some (Box j)) h = absurd (false≢true h)
 
 kind_later : (n i j : ℕ) (o : Option Spot) → later n i o ≡ true → kind o ≡ meaning.box j → (i < j) × (j < n)
 kind_later n i j None h e = let z : ◌≡◌ {A = ℕ} 0 1 = cc in absurd (omega arith)
@@ -92,10 +86,10 @@ sheet_lawful s o some few rows =
       inner = λ i p j e. kind_later (length s) i j (spot s i p) (o.order i p) e;
       entered = λ i h. kind_node (spot s i 0) (o.entries i h);
       no_entry = λ i h. refl;
-      exit_node = λ i p h. exit_kind (spot s i p) h;
+      exit_node = λ i p h. only_nodes exit? refl (λ _. refl) (spot s i p) h;
       letter_small = λ i p. omega arith;
       letter_node = λ i p h. letter_kind (spot s i p) h;
-      mark_node = λ i p h. mark_kind (spot s i p) h;
+      mark_node = λ i p h. only_nodes (λ (o : Option Spot). mark_of_look (look o)) refl (λ _. refl) (spot s i p) h;
       edge_from = λ i p w h. kind_node (spot s i p) (and_parts (node? (spot s i p)) (present (at s i) w) (o.edges i p w h)).0;
       edge_to = λ i p w h. present_kind s i w (and_parts (node? (spot s i p)) (present (at s i) w) (o.edges i p w h)).1;
       leave_from = λ i b e w h.

@@ -70,10 +70,10 @@ pub fn tell_refusal(rt: &HostRuntime, refusal: Refusal) -> io::Result<()> {
     println!(rt; "  refused with {number}: {refusal}")
 }
 
-pub fn tell_size(rt: &HostRuntime, size: Size) -> io::Result<()> {
+pub fn tell_size(rt: &HostRuntime, size: Option<Size>) -> io::Result<()> {
     match size {
-        Size::TooLarge => println!(rt; "  it is too large"),
-        Size::Fits(structures, places) => println!(rt;
+        None => println!(rt; "  it is too large"),
+        Some(Size { structures, places }) => println!(rt;
             "  its size is {structures} structures with {places} places"
         ),
     }

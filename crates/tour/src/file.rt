@@ -1,21 +1,23 @@
 // The drawing as a file: stored, loaded, and damaged in one byte.
 use crate::draw::{schedule, tell_refusal, tell_size};
 use chart::Chart;
-use chartfile::{Record, load, write};
+use chartfile::{Record, Unstored, load, write};
 use hierarchy::Hierarchy;
 use monitor::Monitor;
 use std::io;
 
-// The records of the schedule: a begin, and its edits.
-fn records() -> [Record; 16] {
-    let edits = schedule();
-    let mut records = [Record::Begin { structures: 2 }; 16];
-    for (i, edit) in edits.iter().enumerate() {
-        if i < 15 {
-            records[i + 1] = Record::Draw { edit: *edit };
-        }
-    }
+// The file of the schedule: a begin, and its edits.
+fn stored(rt: &HostRuntime) -> Result<Vec<u8>, Unstored> {
+    let mut records = Vec::new(rt.alloc());
     records
+        .push(Record::Begin { structures: 2 })
+        .map_err(|_| Unstored::NoMemory)?;
+    for edit in schedule() {
+        records
+            .push(Record::Draw { edit })
+            .map_err(|_| Unstored::NoMemory)?;
+    }
+    write(rt.alloc(), &records)
 }
 
 // Loads bytes into a new chart, and tells what came of it.
@@ -37,7 +39,7 @@ fn tell_load(rt: &HostRuntime, bytes: &[u8]) -> io::Result<()> {
 }
 
 pub fn store_and_load(rt: &HostRuntime) -> io::Result<()> {
-    match write(rt.alloc(), &records()) {
+    match stored(rt) {
         Ok(bytes) => {
             let count = bytes.len();
             println!(rt; "The drawing was stored as a file of {count} bytes, and loaded again:")?;
@@ -48,13 +50,13 @@ pub fn store_and_load(rt: &HostRuntime) -> io::Result<()> {
 }
 
 pub fn damage(rt: &HostRuntime) -> io::Result<()> {
-    match write(rt.alloc(), &records()) {
+    match stored(rt) {
         Ok(mut bytes) => {
             println!(rt;
                 "One byte of the file was damaged, the kind of record 8, and it was loaded again:"
             )?;
-            if bytes.len() > 21 {
-                bytes[20] = 77;
+            if let Some(kind) = bytes.get_mut(20) {
+                *kind = 77;
             }
             tell_load(rt, &bytes)
         }

@@ -6,6 +6,7 @@ use guide::GuideRecord;
 use hierarchy::Refusal;
 use layer::Pile;
 use monitor::Monitor;
+use std::alloc::{AllocError, Global};
 use std::io;
 use walk::{Frame, Walk};
 
@@ -14,6 +15,22 @@ const RECORDS: usize = 4096;
 const FRAMES: usize = 256;
 // how many states of a walk are told
 const STATES: u64 = 12;
+
+// What is lent to a judgment and a walk.
+#[derive(Drop)]
+struct Memory {
+    guide: Vec<GuideRecord>,
+    frames: Vec<Frame>,
+}
+
+impl Memory {
+    fn new(alloc: Global) -> Result<Memory, AllocError> {
+        Ok(Memory {
+            guide: vec![in alloc; GuideRecord::blank(); RECORDS]?,
+            frames: vec![in alloc; Frame::blank(); FRAMES]?,
+        })
+    }
+}
 
 fn yes(answer: bool) -> &'static str {
     if answer { "yes" } else { "no" }
@@ -34,8 +51,10 @@ fn tell_verdict(rt: &HostRuntime, judged: Result<Judgment, Refusal>) -> io::Resu
 }
 
 pub fn judge_bare(rt: &HostRuntime, chart: &Chart) -> io::Result<()> {
-    let mut guide = vec![in rt.alloc(); GuideRecord::blank(); RECORDS]?;
-    let mut frames = vec![in rt.alloc(); Frame::blank(); FRAMES]?;
+    let Memory {
+        mut guide,
+        mut frames,
+    } = Memory::new(rt.alloc())?;
     println!(rt; "The chart was judged without a requirement, marked where A is served:")?;
     tell_verdict(rt, judge_under(chart, &[], &mut guide, &mut frames, 0))
 }
@@ -64,8 +83,10 @@ fn tell_state(
 }
 
 fn tell_walk<'a>(rt: &HostRuntime, chart: &'a Chart, monitors: &'a [Monitor]) -> io::Result<()> {
-    let mut guide = vec![in rt.alloc(); GuideRecord::blank(); RECORDS]?;
-    let mut frames = vec![in rt.alloc(); Frame::blank(); FRAMES]?;
+    let Memory {
+        mut guide,
+        mut frames,
+    } = Memory::new(rt.alloc())?;
     let pile = Pile::new(chart, monitors);
     match endless::judge_and_walk(&pile, &mut guide, &mut frames, 0) {
         Ok(
@@ -95,8 +116,10 @@ fn tell_walk<'a>(rt: &HostRuntime, chart: &'a Chart, monitors: &'a [Monitor]) ->
 }
 
 pub fn show_forbidden(rt: &HostRuntime, chart: &Chart, monitors: [Monitor; 2]) -> io::Result<()> {
-    let mut guide = vec![in rt.alloc(); GuideRecord::blank(); RECORDS]?;
-    let mut frames = vec![in rt.alloc(); Frame::blank(); FRAMES]?;
+    let Memory {
+        mut guide,
+        mut frames,
+    } = Memory::new(rt.alloc())?;
     println!(rt; "Both monitors were laid over the chart, and the pile was judged:")?;
     tell_verdict(
         rt,
@@ -129,8 +152,10 @@ fn tell_meaning(rt: &HostRuntime, judged: &Result<Judgment, Refusal>) -> io::Res
 }
 
 pub fn show_free(rt: &HostRuntime, chart: &Chart, monitors: [Monitor; 2]) -> io::Result<()> {
-    let mut guide = vec![in rt.alloc(); GuideRecord::blank(); RECORDS]?;
-    let mut frames = vec![in rt.alloc(); Frame::blank(); FRAMES]?;
+    let Memory {
+        mut guide,
+        mut frames,
+    } = Memory::new(rt.alloc())?;
     println!(rt; "The monitors were laid again, and the pile was judged:")?;
     let judged = judge_under(chart, &monitors, &mut guide, &mut frames, 0);
     tell_meaning(rt, &judged)?;

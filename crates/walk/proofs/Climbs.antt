@@ -9,10 +9,10 @@ pub same_box : {p : Kind} {j k : ℕ} → p ≡ box j → p ≡ box k → j ≡ 
 same_box e f = cc
 
 pub not_both : {p : Kind} {j : ℕ} → p ≡ node → p ≡ box j → ⊥
-not_both e f = let z : ◌≡◌ {A = ℕ} 0 1 = cc in omega arith
+not_both e f = cc
 
 pub node_here : {p : Kind} → p ≡ node → p ≡ absent → ⊥
-node_here e f = let z : ◌≡◌ {A = ℕ} 0 1 = cc in omega arith
+node_here e f = cc
 
 -- climbing
 pub up_from : (g : Guide) (i : ℕ) (v : Vertex) (n : ℕ) → up g.tree i v (suc n) ≡ up g.tree i (parent g.tree i v) n
@@ -60,10 +60,10 @@ pub cross : (g : Guide) (i u : ℕ) (l : Tree) → (g.tree l i u).seed ≡ true 
 cross g i u l e = ap (λ b. vertex (cond b plain l) (g.tree l i u).from) (sym e)
 
 pub marked_apart : marked ≡ plain → ⊥
-marked_apart e = let z : ◌≡◌ {A = ℕ} 0 1 = cc in omega arith
+marked_apart e = cc
 
 pub ring_apart : ring ≡ plain → ⊥
-ring_apart e = let z : ◌≡◌ {A = ℕ} 0 1 = cc in omega arith
+ring_apart e = cc
 
 module _ {m : Meaning} {g : Guide} (G : Good m g) where
   pub climb_base : {i u : ℕ} {l : Tree} → Sound m g.tree (g.aim g.home) i u l → (g.tree l i u).depth ≡ 0 → Climb m g i (vertex l u) 0 (foot_of m g l i)

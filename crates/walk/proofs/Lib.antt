@@ -8,7 +8,6 @@ pub mod Reading
 pub mod Grafts
 pub mod Safe
 pub mod Outcomes
-pub mod Sizes
 pub mod Answered
 pub mod Along
 pub mod Showing

@@ -1,7 +1,6 @@
 -- Many steps of a walk: each keeps the home, follows the guide, and adds a transition to the path.
 -- Assumes nothing.
-use Rattle.std.proofs.Common.{◌≡◌, ℕ, suc, ◌+◌, Bool, true, false, cond, eqb, List, length, is_ok, is_err, Some, None, Ok, Err, Option, Result, sym, refl, ap, ◌∙◌, subst, add-one, arith, ne_eqb}
-use borrow.Author.Tests.{both_ways}
+use Rattle.std.proofs.Common.{◌≡◌, ℕ, suc, ◌+◌, true, List, length, is_ok, None, Result, sym, ap, ◌∙◌, subst, add-one, arith}
 use Rattle.hierarchy.specs.Meaning.{Meaning}
 use Rattle.hierarchy.specs.Flat.{State, Step}
 use Rattle.hierarchy.specs.declared.refusal.Refusal.{Refusal}
@@ -11,8 +10,8 @@ use Rattle.guide.specs.Layout.{guide_of}
 use Rattle.walk.specs.declared.frame.Frame.{Frame}
 use Rattle.walk.specs.declared.steps.Walk.{Walk}
 use Rattle.walk.specs.Walks.{shown, advance, walk}
-use Rattle.walk.specs.Steps.{guide_for, guide_home, ring_home, levels, state_shown, lacking, Answers, Accepts, OnWay}
-use Rattle.walk.specs.Journeys.{Path, more, unless_none, WhereLacking, StepsOn, state_after, OnWalk}
+use Rattle.walk.specs.Steps.{guide_for, guide_home, ring_home, levels, state_shown, lacking, Accepts, OnWay}
+use Rattle.walk.specs.Journeys.{Path, more, StepsOn, state_after}
 use Rattle.walk.proofs.Answered.{shown_levels}
 
 -- one step more of a walk that keeps its home
@@ -32,14 +31,6 @@ module _ (m : Meaning) (xs : List GuideRecord) (first : Walk) (old : List Frame)
   pub accepts_later : (i : ℕ) (r : Result (Unit {0}) Refusal) → StepsOn m (guide_for m xs first) i first old w fs → length fs ≡ length old → Accepts m xs w fs r → Accepts m xs first old r
   accepts_later i r s n a k G e l =
       a (k + i) (subst (Good m) (sym kept_guide) G) (subst (λ x. levels m x w fs ≡ walk m x (k + i)) (sym kept_guide) (s k e)) (ap (lacking m (length xs)) n ∙ l)
-
-pub err_not_ok : {X E : Type 0} (r : Result X E) → is_err r ≡ true → is_ok r ≡ true → ⊥
-err_not_ok (Ok x) e o = both_ways false refl e
-err_not_ok (Err x) e o = both_ways false refl o
-
-pub on_no_walk : (P : Walk → Type 0) (r : Result Walk Refusal) → is_err r ≡ true → OnWalk P r
-on_no_walk P (Ok w) e = absurd (both_ways false refl e)
-on_no_walk P (Err k) e = tt
 
 -- n steps from the start
 module _ (m : Meaning) (xs : List GuideRecord) (home : ℕ) (w : Walk) (old : List Frame) (at_home : ring_home w ≡ home)
@@ -64,33 +55,3 @@ module _ (m : Meaning) (xs : List GuideRecord) (home : ℕ) (w : Walk) (old : Li
 -- one transition more
 pub path_more : (m : Meaning) (n : ℕ) (s t u : State) → Path m n s t → Step m 0 t u → Path m (n + 1) s u
 path_more m n s t u p d = rw add-one (more p d)
-
--- after a step that was made nothing is amiss
-pub answers_made : (n : ℕ) (k : Option Refusal) → Answers {X = Unit {0}} k (Ok tt) → Answers {X = Unit {0}} (unless_none n k) (Ok tt)
-answers_made n (Some r) e = let z : ◌≡◌ {A = ℕ} 0 1 = cc in absurd (omega arith)
-answers_made n None e = go (eqb n 0)
-  where
-    go : (b : Bool) → Answers {X = Unit {0}} (cond b None None) (Ok tt)
-    go true = tt
-    go false = tt
-
-pub made_lacks : {P : Type 0} (k : Option Refusal) → Answers {X = Unit {0}} k (Ok tt) → WhereLacking k P
-made_lacks (Some r) e j f = let z : ◌≡◌ {A = ℕ} 0 1 = cc in absurd (omega arith)
-made_lacks None e j f = let z : ◌≡◌ {A = ℕ} 0 1 = cc in absurd (omega arith)
-
--- the answer of the step that is refused
-pub answers_refused : (X Y : Type 0) (n : ℕ) (k : Option Refusal) (e : Refusal) → (n ≡ 0 → ⊥) → Answers {X = X} k (Err e) → Answers {X = Y} (unless_none n k) (Err e)
-answers_refused X Y n k e z a = subst (λ b. Answers {X = Y} (cond b None k) (Err e)) (sym (ne_eqb n 0 z)) (go k a)
-  where
-    go : (k : Option Refusal) → Answers {X = X} k (Err e) → Answers {X = Y} k (Err e)
-    go (Some r) a = let q : e ≡ r = cc in ap Err q
-    go None a = a
-
--- the same answer, with or without a walk
-pub answers_same_err : (k : Option Refusal) (e : Refusal) → Answers {X = Unit {0}} k (Err e) → Answers {X = Walk} k (Err e)
-answers_same_err (Some r) e a = let q : e ≡ r = cc in ap Err q
-answers_same_err None e a = a
-
-pub answers_same_ok : (k : Option Refusal) (w : Walk) → Answers {X = Unit {0}} k (Ok tt) → Answers {X = Walk} k (Ok w)
-answers_same_ok (Some r) w a = let z : ◌≡◌ {A = ℕ} 0 1 = cc in absurd (omega arith)
-answers_same_ok None w a = tt

@@ -1,21 +1,20 @@
 -- What a checked step does: on success it is a transition and follows the guide; a walk of a good guide is never refused.
 -- Assumes nothing.
-use Rattle.std.proofs.Common.{◌≡◌, ℕ, ◌+◌, ◌<◌, ◌≤◌, true, false, List, length, take, Some, None, Option, sym, ap, ◌∙◌, subst, arith, length-take}
+use Rattle.std.proofs.Common.{◌≡◌, ℕ, ◌+◌, ◌<◌, ◌≤◌, ◌≢◌, true, false, List, length, take, Some, None, Option, sym, ap, ◌∙◌, subst, arith, length-take}
 use borrow.Author.Tests.{both_ways}
-use Rattle.hierarchy.specs.Meaning.{Meaning, Lawful}
-use Rattle.hierarchy.specs.Flat.{Step}
+use Rattle.hierarchy.specs.Meaning.{Meaning, Lawful, absent}
 use Rattle.guide.specs.Trees.{Guide, Good}
 use Rattle.walk.specs.declared.frame.Frame.{Frame}
 use Rattle.walk.specs.declared.stand.Stand.{Stand}
-use Rattle.walk.specs.Levels.{is_pass_lem, hop}
-use Rattle.walk.specs.Walks.{Stack, inmost, outer, shown, land, ended, advance, walk}
-use Rattle.walk.specs.Standing.{located, graft, stack_of, Landed, Outcome}
+use Rattle.walk.specs.Levels.{is_pass_lem, hop, turned}
+use Rattle.walk.specs.Walks.{Stack, inmost, outer, land, walk}
+use Rattle.walk.specs.Standing.{located, graft, stack_of, around, Hops, allowed, Landed, Moves, OutcomeOf}
 use Rattle.walk.proofs.Fits.{Valid, first}
 use Rattle.walk.proofs.Endless.{walk_valid, some_structure}
-use Rattle.walk.proofs.Grafts.{valid_under, under_once, under_long, under_below, edge_goes, leave_goes, inner_near, outer_near, inner_hop_near, outer_hop_near, advance_edge, advance_leave, edge_is_step, leave_is_step}
+use Rattle.walk.proofs.Grafts.{Under, valid_under, under_once, under_long, under_below, edge_goes, leave_goes, inner_near, outer_near, inner_hop_near, outer_hop_near, advance_edge, advance_leave, edge_is_step, leave_is_step}
 use Rattle.walk.proofs.Safe.{located→, located←}
 
-module _ (m : Meaning) (L : Lawful m) (fits : m.large ≡ false) (g : Guide) where
+module _ {m : Meaning} (L : Lawful m) (fits : m.large ≡ false) (g : Guide) where
   walk_is_valid : (n : ℕ) (s : Stack) → Good m g → s ≡ walk m g n → Valid m g 0 s
   walk_is_valid n s G e = subst (Valid m g 0) (sym e) (walk_valid L G fits n).0
 
@@ -39,59 +38,43 @@ module _ (m : Meaning) (L : Lawful m) (fits : m.large ≡ false) (g : Guide) whe
   not_lost fs s n e G w =
       let r = valid_under g fs s (walk_is_valid n _ G w) in
       let f = located← m fs 0 r.0 r.1 in
-      let z : ◌≡◌ {A = ℕ} 0 1 = cc in
-      omega arith
+      cc
 
-  pub edge_there : (fs : List Frame) (f : Frame) (k n : ℕ) → located m 0 fs ≡ Some k → ended (inmost f) ≡ false → Good m g → graft fs (inmost f) ≡ walk m g n →
-      m.edge k f.place (hop g k f).place ≡ true
-  edge_there fs f k n e o G w = edge_goes L G f (inner_valid fs (inmost f) k n e G w) o
+  -- a hop of a level of the walk's stack is near, and the flat form has it
+  pub hop_near : (fs : List Frame) (f : Frame) (o : Option Frame) (k n : ℕ) → located m 0 fs ≡ Some k → Good m g → graft fs (around f o) ≡ walk m g n → f.left ≤ m.places + m.places
+  hop_near fs f None k n e G w = inner_near L G (inner_valid fs (inmost f) k n e G w)
+  hop_near fs f (Some x) k n e G w = outer_near L G (inner_valid fs (outer f (inmost x)) k n e G w)
 
-  pub leave_there : (fs : List Frame) (f x : Frame) (k n : ℕ) → located m 0 fs ≡ Some k → ended (inmost x) ≡ true → Good m g → graft fs (outer f (inmost x)) ≡ walk m g n →
-      m.leave k f.place x.place (hop g k f).place ≡ true
-  leave_there fs f x k n e o G w = leave_goes L G f x (inner_valid fs (outer f (inmost x)) k n e G w) o
+  hopped_near : (fs : List Frame) (f : Frame) (o : Option Frame) (k n : ℕ) → located m 0 fs ≡ Some k → Good m g → graft fs (around f o) ≡ walk m g n →
+      (turned g k (hop g k f)).left ≤ m.places + m.places
+  hopped_near fs f None k n e G w = inner_hop_near L G (inner_valid fs (inmost f) k n e G w)
+  hopped_near fs f (Some x) k n e G w = outer_hop_near L G (inner_valid fs (outer f (inmost x)) k n e G w)
 
-  pub edge_near : (fs : List Frame) (f : Frame) (k n : ℕ) → located m 0 fs ≡ Some k → Good m g → graft fs (inmost f) ≡ walk m g n → f.left ≤ m.places + m.places
-  edge_near fs f k n e G w = inner_near L G (inner_valid fs (inmost f) k n e G w)
+  pub hop_there : (fs : List Frame) (f next : Frame) (o : Option Frame) (k n : ℕ) → located m 0 fs ≡ Some k → next ≡ hop g k f → Hops f o → Good m g → graft fs (around f o) ≡ walk m g n →
+      allowed m k f o next.place ≡ true
+  hop_there fs f next None k n e is o G w = rw is (edge_goes L G f (inner_valid fs (inmost f) k n e G w) o)
+  hop_there fs f next (Some x) k n e is o G w = rw is (leave_goes L G f x (inner_valid fs (outer f (inmost x)) k n e G w) o)
 
-  pub leave_near : (fs : List Frame) (f x : Frame) (k n : ℕ) → located m 0 fs ≡ Some k → Good m g → graft fs (outer f (inmost x)) ≡ walk m g n → f.left ≤ m.places + m.places
-  leave_near fs f x k n e G w = outer_near L G (inner_valid fs (outer f (inmost x)) k n e G w)
+  -- it ends at a place, is a transition, and is what the guide says
+  hop_to : (k p : ℕ) (f : Frame) (o : Option Frame) → allowed m k f o p ≡ true → m.place k p ≢ absent
+  hop_to k p f None x = L.edge_to _ _ _ x
+  hop_to k p f (Some l) x = L.leave_to _ _ _ _ x
 
-  pub edge_outcome : (old new : List Frame) (d k : ℕ) (last next : Frame) (r : Option Stand) →
-      located m 0 (take d old) ≡ Some k → next ≡ hop g k last → m.edge k last.place next.place ≡ true → ended (inmost last) ≡ false →
-      Landed m g d k next old new r → Outcome m g old new (record { depth = d; last = last }) r
-  edge_outcome old new d k last next (Some t) e f x o l =
-      let U = located→ m (take d old) 0 k e in
+  hop_moves : (fs : List Frame) (k : ℕ) (f : Frame) (o : Option Frame) → Under m 0 fs k → Hops f o → allowed m k f o (hop g k f).place ≡ true →
+      Moves m g (graft fs (around f o)) (graft fs (land m g k (hop g k f)))
+  hop_moves fs k f None U o x = record { transition = edge_is_step L g f U x; follows = sym (advance_edge g f U o) }
+  hop_moves fs k f (Some l) U o x = record { transition = leave_is_step L g f l U x; follows = sym (advance_leave g f l U (L.leave_from _ _ _ _ x).1 o) }
+
+  pub hop_outcome : (old new : List Frame) (d k : ℕ) (f next : Frame) (o : Option Frame) (r : Option Stand) →
+      located m 0 (take d old) ≡ Some k → next ≡ hop g k f → allowed m k f o next.place ≡ true → Hops f o →
+      Landed m g d k next old new r → OutcomeOf m g (graft (take d old) (around f o)) old new r
+  hop_outcome old new d k f next o (Some t) e is x h l =
       let fs = take d old in
-      let q : stack_of new t ≡ graft fs (land m g k (hop g k last)) = l.1 ∙ ap (λ a. graft fs (land m g k a)) f in
-      let x' : m.edge k last.place (hop g k last).place ≡ true = rw f at x in
-      record {
-        transition = subst (λ s. Step m 0 (shown (graft fs (inmost last))) (shown s)) (sym q) (edge_is_step L g last U x');
-        follows = q ∙ sym (advance_edge g last U o);
-      }
-  edge_outcome old new d k last next None e f x o l = (
+      let q : stack_of new t ≡ graft fs (land m g k (hop g k f)) = l.1 ∙ ap (λ a. graft fs (land m g k a)) is in
+      subst (Moves m g (graft fs (around f o))) (sym q) (hop_moves fs k f o (located→ m fs 0 k e) h (rw is at x))
+  hop_outcome old new d k f next o None e is x h l = (
     l.0,
-    λ n G w s. l.1 (L.edge_to _ _ _ x) (depth_small old d n _ G w s)
-        (rw f (inner_hop_near L G (inner_valid (take d old) (inmost last) k n e G w))),
-  )
-
-  pub leave_outcome : (old new : List Frame) (d k : ℕ) (last outside next : Frame) (r : Option Stand) →
-      located m 0 (take d old) ≡ Some k → next ≡ hop g k outside → m.leave k outside.place last.place next.place ≡ true → ended (inmost last) ≡ true → d < length old →
-      graft (take (d + 1) old) (inmost last) ≡ graft (take d old) (outer outside (inmost last)) →
-      Landed m g d k next old new r → Outcome m g old new (record { depth = d + 1; last = last }) r
-  leave_outcome old new d k last outside next (Some t) e f x o h z l =
-      let U = located→ m (take d old) 0 k e in
-      let fs = take d old in
-      let q : stack_of new t ≡ graft fs (land m g k (hop g k outside)) = l.1 ∙ ap (λ a. graft fs (land m g k a)) f in
-      let x' : m.leave k outside.place last.place (hop g k outside).place ≡ true = rw f at x in
-      let b = (L.leave_from _ _ _ _ x').1 in
-      record {
-        transition = rw z (subst (λ s. Step m 0 (shown (graft fs (outer outside (inmost last)))) (shown s)) (sym q) (leave_is_step L g outside last U x'));
-        follows = q ∙ sym (ap (advance m g 0) z ∙ advance_leave g outside last U b o);
-      }
-  leave_outcome old new d k last outside next None e f x o h z l = (
-    l.0,
-    λ n G w s. l.1 (L.leave_to _ _ _ _ x) h
-        (rw f (outer_hop_near L G (inner_valid (take d old) (outer outside (inmost last)) k n e G (sym z ∙ w)))),
+    λ n G w s. l.1 (hop_to k next.place f o x) (depth_small old d n _ G w s) (rw is (hopped_near (take d old) f o k n e G w)),
   )
 
   -- at the outermost level there is no pass

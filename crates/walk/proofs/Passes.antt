@@ -182,7 +182,7 @@ module _ {m : Meaning} (L : Lawful m) {g : Guide} (G : Good m g) where
           let V = alone P.0 (L.entered j (L.inner _ _ _ b).1) (pass_ready L G P.1) in
           let o : EndedMarked j (inmost (inner m g i lv j (suc n))) = pass_ends j b en.seed (m.mark j en.via) refl refl V P.1 in
           subst (λ y. GoesMarked i (outer lv (inmost (inner m g i lv j (suc y)))) (land m g i (hopped g i lv n))) kn
-          (meet_then (goes_marked_inside b o.run) (leave_step b e o.over))
+          (meet_then (goes_marked_inside {t = o.last} b o.run) (leave_step {s = o.last} b e o.over))
 
       go : (q : Kind) → m.place i lv.place ≡ q → GoesMarked i (settle m g i lv q) (land m g i (hopped g i lv n))
       go absent q = absurd (x q)

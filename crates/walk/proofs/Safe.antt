@@ -1,62 +1,39 @@
 -- What the code of a step checks, and what it leaves, over values.
 -- Assumes nothing.
-use Rattle.std.proofs.Common.{◌≡◌, ℕ, zero, suc, ◌+◌, ◌-◌, ◌<◌, List, [], ◌∷◌, length, get_or, take, drop, set, Some, Option, sym, refl, ap, ◌∙◌, subst, add-one, arith, drop-cons}
-use Rattle.hierarchy.specs.Meaning.{Meaning, Lawful, Kind, absent, node, box}
+use Rattle.std.proofs.Common.{◌≡◌, ℕ, zero, suc, ◌+◌, ◌<◌, List, [], ◌∷◌, length, get_or, take, drop, set, Some, None, Option, sym, refl, ap, ◌∙◌, subst, add-one, arith, drop-cons}
+use Rattle.hierarchy.specs.Meaning.{Meaning, Kind, absent, node, box}
 use Rattle.hierarchy.specs.Answers.{place_told}
-use Rattle.hierarchy.specs.declared.Place.TheVariants.{Absent, Node, Box}
+use Rattle.hierarchy.specs.declared.Place.{Place}
+use Rattle.hierarchy.specs.declared.Place.TheVariants.{Box}
 use Rattle.guide.specs.Trees.{Guide}
 use Rattle.walk.specs.declared.frame.Frame.{Frame}
-use Rattle.walk.specs.declared.read.Plan.{Plan}
 use Rattle.walk.specs.Levels.{turned, inner}
 use Rattle.walk.specs.Walks.{Stack, inmost, outer, land}
-use Rattle.walk.specs.Memory.{Within}
-use Rattle.walk.specs.Standing.{Planned, located, through_box, graft}
-use Rattle.walk.proofs.Grafts.{Under, under_none, under_box, under_below}
-
--- what a place is, from the answer
-pub told_absent : (k : Kind) → Absent ≡ place_told k → k ≡ absent
-told_absent absent e = refl
-told_absent node e = let z : ◌≡◌ {A = ℕ} 0 1 = cc in absurd (omega arith)
-told_absent (box j) e = let z : ◌≡◌ {A = ℕ} 0 1 = cc in absurd (omega arith)
-
-pub told_node : (k : Kind) → Node ≡ place_told k → k ≡ node
-told_node absent e = let z : ◌≡◌ {A = ℕ} 0 1 = cc in absurd (omega arith)
-told_node node e = refl
-told_node (box j) e = let z : ◌≡◌ {A = ℕ} 0 1 = cc in absurd (omega arith)
-
-pub told_box : (k : Kind) (j : ℕ) → Box j ≡ place_told k → k ≡ box j
-told_box absent j e = let z : ◌≡◌ {A = ℕ} 0 1 = cc in absurd (omega arith)
-told_box node j e = let z : ◌≡◌ {A = ℕ} 0 1 = cc in absurd (omega arith)
-told_box (box i) j e = let q : i ≡ j = cc in ap box q
+use Rattle.walk.specs.Standing.{located, through_box, graft}
+use Rattle.walk.proofs.Grafts.{Under, under_none, under_box}
 
 -- the frames that lead somewhere
 pub locate_step : (m : Meaning) (xs : List Frame) (n i : ℕ) (d : Frame) (k : Kind) → n < length xs → m.place i (get_or xs n d).place ≡ k →
     located m i (drop n xs) ≡ through_box k (λ j. located m j (drop (n + 1) xs))
 locate_step m xs n i d k h e = rw (add-one, drop-cons xs n d h, e) refl
 
+pub no_box_told : (p : Place) (k : Kind) (f : ℕ → Option ℕ) → ((j : ℕ) → p ≡ Box j → ⊥) → p ≡ place_told k → through_box k f ≡ None
+no_box_told p absent f n e = refl
+no_box_told p node f n e = refl
+no_box_told p (box j) f n e = absurd (n j e)
+
 pub located→ : (m : Meaning) (xs : List Frame) (i k : ℕ) → located m i xs ≡ Some k → Under m i xs k
 located→ m [] i k e = let q : i ≡ k = cc in subst (Under m i []) q under_none
 located→ m (x ∷ xs) i k e = go (m.place i x.place) refl (located→ m xs)
   where
     go : (p : Kind) → m.place i x.place ≡ p → ((i k : ℕ) → located m i xs ≡ Some k → Under m i xs k) → Under m i (x ∷ xs) k
-    go absent q rec = let z : ◌≡◌ {A = ℕ} 0 1 = cc (ap (λ p. through_box p (λ j. located m j xs)) q) in absurd (omega arith)
-    go node q rec = let z : ◌≡◌ {A = ℕ} 0 1 = cc (ap (λ p. through_box p (λ j. located m j xs)) q) in absurd (omega arith)
+    go absent q rec = absurd (cc (ap (λ p. through_box p (λ j. located m j xs)) q))
+    go node q rec = absurd (cc (ap (λ p. through_box p (λ j. located m j xs)) q))
     go (box j) q rec = under_box q (rec j k (sym (ap (λ p. through_box p (λ j. located m j xs)) q) ∙ e))
 
 pub located← : (m : Meaning) (xs : List Frame) (i k : ℕ) → Under m i xs k → located m i xs ≡ Some k
 located← m [] i k under_none = refl
 located← m (x ∷ xs) i k (under_box {j = j} b U) = ap (λ p. through_box p (λ j. located m j xs)) b ∙ located← m xs j k U
-
--- a plan of a lawful hierarchy is small
-pub within_plan : (m : Meaning) (p : Plan) (k : ℕ) → Lawful m → Planned m p → k < m.structures → Within p k
-within_plan m p k L P h =
-    let s = L.sized P.fits in
-    record { few = omega arith; narrow = omega arith; inside = omega arith }
-
-pub within_located : (m : Meaning) (p : Plan) (xs : List Frame) (k : ℕ) → Lawful m → Planned m p → located m 0 xs ≡ Some k → Within p k
-within_located m p xs k L P e =
-    let s = L.sized P.fits in
-    within_plan m p k L P (under_below L (omega arith) (located→ m xs 0 k e))
 
 -- a level written below the first d frames
 graft_suc : (xs : List Frame) (d : ℕ) (t : Frame) (s : Stack) → d < length xs → graft (take (suc d) (set xs d t)) s ≡ graft (take d xs) (outer t s)
@@ -80,10 +57,4 @@ pub land_box : (m : Meaning) (g : Guide) (i : ℕ) (f t q : Frame) (j : ℕ) →
 land_box m g i f t q j e u h = rw (e, h, u) refl
 
 pub box_present : {k : Kind} (j : ℕ) → k ≡ box j → k ≡ absent → ⊥
-box_present j e f = let z : ◌≡◌ {A = ℕ} 0 1 = cc in omega arith
-
--- what a call on the first d frames answers
-pub located_first : (m : Meaning) (xs : List Frame) (d : ℕ) (r : Option ℕ) → r ≡ located m 0 (take (d - 0) xs) → located m 0 (take d xs) ≡ r
-located_first m xs d r e =
-    let z : d - 0 ≡ d = omega arith in
-    sym (e ∙ ap (λ n. located m 0 (take n xs)) z)
+box_present j e f = cc

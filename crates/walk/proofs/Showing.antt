@@ -1,16 +1,18 @@
 -- The parts of the state that a walk shows, read from the frames of its outer levels and its innermost one.
 -- Assumes nothing.
-use Rattle.std.proofs.Common.{◌≡◌, ℕ, zero, suc, ◌+◌, ◌<◌, ◌≤◌, Bool, true, false, cond, List, [], ◌∷◌, length, get_or, take, drop, Some, None, sym, refl, ap, ◌∙◌, add-one, arith, drop-cons}
-use Rattle.hierarchy.specs.Meaning.{Meaning, Kind, absent, node, box}
-use Rattle.hierarchy.specs.Answers.{place_told}
-use Rattle.hierarchy.specs.declared.Place.{Place}
-use Rattle.hierarchy.specs.Flat.{initial, last_structure, last_node, inner_of}
+use Rattle.std.proofs.Common.{◌≡◌, ℕ, zero, suc, ◌<◌, ◌≤◌, List, [], ◌∷◌, length, get_or, take, Some, None, Option, sym, refl, ap, ◌∙◌, arith}
+use denote.Ref.{Bor}
+use Rattle.std.specs.Option.{MatchOption, IsSomeAnd}
+use Rattle.std.specs.Slice.{IsItemAt}
+use Rattle.hierarchy.specs.Meaning.{Meaning}
+use Rattle.hierarchy.specs.Flat.{last_structure, last_node, inner_of}
 use Rattle.walk.specs.declared.frame.Frame.{Frame}
+use Rattle.walk.specs.declared.stand.Stand.{Stand}
 use Rattle.walk.specs.declared.steps.Walk.{Walk}
 use Rattle.walk.specs.Walks.{inmost, shown}
-use Rattle.walk.specs.Standing.{graft, stack_of}
-use Rattle.walk.specs.Steps.{state_shown}
-use Rattle.walk.specs.Shown.{boxes_of, box_in, mark_of, structure_behind_lem, outer_frames, inner_told}
+use Rattle.walk.specs.Standing.{graft}
+use Rattle.walk.specs.Steps.{shown_at, state_shown}
+use Rattle.walk.specs.Shown.{boxes_of, box_in, mark_of, structure_behind_lem, outer_at, outer_frames}
 
 abbrev pub box_places : List Frame → List ℕ
 box_places [] = []
@@ -29,25 +31,30 @@ graft_node [] f = refl
 graft_node (x ∷ fs) f = graft_node fs f
 
 pub shown_boxes : (m : Meaning) (w : Walk) (fs : List Frame) → boxes_of (state_shown m w fs) ≡ box_places (outer_frames w fs)
-shown_boxes m w fs = go w.fresh
+shown_boxes m w fs = go w.stand
   where
-    go : (b : Bool) → boxes_of (cond b (initial m 0) (shown (stack_of fs w.stand))) ≡ box_places (cond b [] (take w.stand.depth fs))
-    go true = refl
-    go false = graft_boxes (take w.stand.depth fs) w.stand.last
+    go : (o : Option Stand) → boxes_of (shown_at m fs o) ≡ box_places (outer_at fs o)
+    go None = refl
+    go (Some s) = graft_boxes (take s.depth fs) s.last
 
 pub shown_structure : (m : Meaning) (w : Walk) (fs : List Frame) → last_structure m 0 (state_shown m w fs) ≡ structure_behind_lem m 0 (outer_frames w fs)
-shown_structure m w fs = go w.fresh
+shown_structure m w fs = go w.stand
   where
-    go : (b : Bool) → last_structure m 0 (cond b (initial m 0) (shown (stack_of fs w.stand))) ≡ structure_behind_lem m 0 (cond b [] (take w.stand.depth fs))
-    go true = refl
-    go false = graft_structure m 0 (take w.stand.depth fs) w.stand.last
+    go : (o : Option Stand) → last_structure m 0 (shown_at m fs o) ≡ structure_behind_lem m 0 (outer_at fs o)
+    go None = refl
+    go (Some s) = graft_structure m 0 (take s.depth fs) s.last
 
-pub shown_node : (m : Meaning) (w : Walk) (fs : List Frame) → last_node (state_shown m w fs) ≡ cond w.fresh (m.entry 0) w.stand.last.place
-shown_node m w fs = go w.fresh
+-- the node at which a walk stands
+abbrev pub node_at : Meaning → Option Stand → ℕ
+node_at m None = m.entry 0
+node_at m (Some s) = s.last.place
+
+pub shown_node : (m : Meaning) (w : Walk) (fs : List Frame) → last_node (state_shown m w fs) ≡ node_at m w.stand
+shown_node m w fs = go w.stand
   where
-    go : (b : Bool) → last_node (cond b (initial m 0) (shown (stack_of fs w.stand))) ≡ cond b (m.entry 0) w.stand.last.place
-    go true = refl
-    go false = graft_node (take w.stand.depth fs) w.stand.last
+    go : (o : Option Stand) → last_node (shown_at m fs o) ≡ node_at m o
+    go None = refl
+    go (Some s) = graft_node (take s.depth fs) s.last
 
 pub length_places : (fs : List Frame) → length (box_places fs) ≡ length fs
 length_places [] = refl
@@ -63,17 +70,12 @@ box_past [] k h = refl
 box_past (f ∷ fs) zero h = absurd (omega arith)
 box_past (f ∷ fs) (suc k) h = box_past fs k (omega arith)
 
-told_inner : (k : Kind) → inner_told (place_told k) ≡ inner_of k
-told_inner absent = refl
-told_inner node = refl
-told_inner (box j) = refl
-
--- one frame further
-pub behind_more : (m : Meaning) (fs : List Frame) (n i : ℕ) (d : Frame) (p : Place) (j : ℕ) → n < length fs → p ≡ place_told (m.place i (get_or fs n d).place) → j ≡ inner_told p →
-    structure_behind_lem m i (drop n fs) ≡ structure_behind_lem m j (drop (n + 1) fs)
-behind_more m fs n i d p j h e f =
-    let q : j ≡ inner_of (m.place i (get_or fs n d).place) = f ∙ ap inner_told e ∙ told_inner (m.place i (get_or fs n d).place) in
-    rw (add-one, drop-cons fs n d h) (ap (λ x. structure_behind_lem m x (drop (suc n) fs)) (sym q))
+-- the place in the frame that is lent, if there is one
+pub box_told : (fs : List Frame) (k : ℕ) (P : Bor Frame → ℕ → Type 0) → ((x : Bor Frame) (p : ℕ) → P x p → p ≡ x.now.place) → (o : Option (Bor Frame)) (r : Option ℕ) →
+    IsItemAt fs k o → MatchOption o (r ≡ None) (λ x. IsSomeAnd r (P x)) → r ≡ box_in (box_places fs) k
+box_told fs k P f None r i e = e ∙ sym (box_past fs k i.3)
+box_told fs k P f (Some x) None i e = absurd e
+box_told fs k P f (Some x) (Some p) i e = ap Some (f x p e ∙ ap (λ y. y.place) i.1) ∙ sym (box_there fs k x.now i.3.0)
 
 pub mark_there : (m : Meaning) (w : Walk) (fs : List Frame) (i n : ℕ) → i ≡ structure_behind_lem m 0 (outer_frames w fs) → n ≡ last_node (state_shown m w fs) →
     m.mark i n ≡ mark_of m (state_shown m w fs)

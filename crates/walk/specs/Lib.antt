@@ -1,6 +1,7 @@
 pub mod Levels
 pub mod Walks
 pub mod Memory
+pub mod Planned
 pub mod Standing
 pub mod Steps
 pub mod Onward

@@ -1,7 +1,6 @@
 -- How the trees of a guide are read from lent memory.
 -- Assumes nothing.
-use Rattle.std.specs.Prelude.{ℕ, ◌<◌, ◌≤◌, Bool, true, false, List, ◌==◌}
-use Rattle.guide.specs.declared.GuideRecord.{GuideRecord}
+use Rattle.std.specs.Prelude.{ℕ, Bool, true, false, ◌==◌}
 use Rattle.guide.specs.Trees.{Guide, Vertex, plain, marked, ring}
 use Rattle.guide.specs.Trees
 use Rattle.guide.specs.Layout.{guide_of}
@@ -13,8 +12,8 @@ use Rattle.walk.specs.declared.frame.Way.{Way}
 use Rattle.walk.specs.declared.frame.Way.TheVariants.{Pass, PassMarked, Lead, Ring as WayRing}
 
 -- the guide that memory is, for a hierarchy of this size and this home of the ring
-abbrev pub guide_by : List GuideRecord → Plan → Guide
-guide_by xs p = guide_of xs p.structures p.places p.home
+abbrev pub guide_by : Plan → Guide
+guide_by p = guide_of p.guide.now p.size.structures p.size.places p.home
 
 abbrev pub tree_told : Tree → Trees.Tree
 tree_told Plain = plain
@@ -23,12 +22,6 @@ tree_told Ring = ring
 
 abbrev pub spot_told : Spot → Vertex
 spot_told s = record { lane = tree_told s.tree; spot = s.place }
-
--- a structure of a plan that is small enough for indices to fit
-pub record Within (p : Plan) (i : ℕ) : Type 0 where
-  pub few : p.structures ≤ 1024
-  pub narrow : p.places ≤ 1024
-  pub inside : i < p.structures
 
 -- whether a level of structure i at its goal goes round the ring from there
 abbrev pub goes_round_lem : Plan → ℕ → Way → Bool

@@ -1,11 +1,10 @@
 -- The parts of the flat state that a walk shows: its boxes, outermost first, its node and its mark.
 -- Assumes nothing.
-use Rattle.std.specs.Prelude.{ℕ, zero, suc, Bool, cond, List, [], ◌∷◌, take, Some, None, Option}
+use Rattle.std.specs.Prelude.{ℕ, zero, suc, Bool, List, [], ◌∷◌, take, Some, None, Option}
 use Rattle.hierarchy.specs.Meaning.{Meaning}
 use Rattle.hierarchy.specs.Flat.{State, at, within, last_structure, last_node, inner_of}
-use Rattle.hierarchy.specs.declared.Place.{Place}
-use Rattle.hierarchy.specs.declared.Place.TheVariants.{Absent, Node, Box}
 use Rattle.walk.specs.declared.frame.Frame.{Frame}
+use Rattle.walk.specs.declared.stand.Stand.{Stand}
 use Rattle.walk.specs.declared.steps.Walk.{Walk}
 
 abbrev pub boxes_of : State → List ℕ
@@ -27,11 +26,9 @@ structure_behind_lem m i [] = i
 structure_behind_lem m i (f ∷ fs) = structure_behind_lem m (inner_of (m.place i f.place)) fs
 
 -- the frames in which the outer levels of a walk are
-abbrev pub outer_frames : Walk → List Frame → List Frame
-outer_frames w fs = cond w.fresh [] (take w.stand.depth fs)
+abbrev pub outer_at : List Frame → Option Stand → List Frame
+outer_at fs None = []
+outer_at fs (Some s) = take s.depth fs
 
--- the structure that a box names, as a hierarchy tells it; 0 for what is no box
-abbrev pub inner_told : Place → ℕ
-inner_told Absent = 0
-inner_told Node = 0
-inner_told (Box j) = j
+abbrev pub outer_frames : Walk → List Frame → List Frame
+outer_frames w fs = outer_at fs w.stand

@@ -1,20 +1,13 @@
 -- Where a walk stands: its levels, in the frames lent to it and in itself. What its step does, whatever memory holds.
 -- Assumes nothing.
-use Rattle.std.specs.Prelude.{◌≡◌, ℕ, ◌+◌, ◌<◌, ◌≤◌, false, List, [], ◌∷◌, length, take, Some, None, Option, ◌≢◌}
+use Rattle.std.specs.Prelude.{◌≡◌, ℕ, ◌+◌, ◌<◌, ◌≤◌, Bool, true, false, List, [], ◌∷◌, length, take, Some, None, Option, ◌≢◌}
 use Rattle.hierarchy.specs.Meaning.{Meaning, Kind, absent, node, box}
 use Rattle.hierarchy.specs.Flat.{Step}
 use Rattle.guide.specs.Trees.{Guide, Good}
 use Rattle.walk.specs.declared.frame.Frame.{Frame}
-use Rattle.walk.specs.declared.read.Plan.{Plan}
 use Rattle.walk.specs.declared.stand.Stand.{Stand}
 use Rattle.walk.specs.Levels.{turned}
-use Rattle.walk.specs.Walks.{Stack, inmost, outer, shown, land, advance, walk}
-
--- the plan is of this hierarchy, which is not too large
-pub record Planned (m : Meaning) (p : Plan) : Type 0 where
-  pub fits : m.large ≡ false
-  pub structures : p.structures ≡ m.structures
-  pub places : p.places ≡ m.places
+use Rattle.walk.specs.Walks.{Stack, inmost, outer, shown, ended, land, advance, walk}
 
 -- the structure that frames lead to from structure i, if each stands at a box
 abbrev pub through_box : Kind → (ℕ → Option ℕ) → Option ℕ
@@ -46,8 +39,26 @@ pub record Moves (m : Meaning) (g : Guide) (before after : Stack) : Type 0 where
   pub transition : Step m 0 (shown before) (shown after)
   pub follows : after ≡ advance m g 0 before
 
+-- a level, and the level inside the box at which it stands, if there is one
+abbrev pub around : Frame → Option Frame → Stack
+around f None = inmost f
+around f (Some x) = outer f (inmost x)
+
+-- the next step is a hop of the level: there is none inside it, or the one inside has come to its exit
+abbrev pub Hops : Frame → Option Frame → Type 0
+Hops f None = ended (inmost f) ≡ false
+Hops f (Some x) = ended (inmost x) ≡ true
+
+-- whether the flat form has the hop of a level of structure i to place p: an edge, or a leave by the exit of the level inside
+abbrev pub allowed : Meaning → ℕ → Frame → Option Frame → ℕ → Bool
+allowed m i f None p = m.edge i f.place p
+allowed m i f (Some x) p = m.leave i f.place x.place p
+
 -- a step that is refused alters no frame, and a walk that followed a good guide is not refused
+abbrev pub OutcomeOf : Meaning → Guide → Stack → List Frame → List Frame → Option Stand → Type 0
+OutcomeOf m g before old new (Some t) = Moves m g before (stack_of new t)
+OutcomeOf m g before old new None =
+    (new ≡ old) × ((n : ℕ) → Good m g → before ≡ walk m g n → m.structures ≤ length old → ⊥)
+
 abbrev pub Outcome : Meaning → Guide → List Frame → List Frame → Stand → Option Stand → Type 0
-Outcome m g old new s (Some t) = Moves m g (stack_of old s) (stack_of new t)
-Outcome m g old new s None =
-    (new ≡ old) × ((n : ℕ) → Good m g → stack_of old s ≡ walk m g n → m.structures ≤ length old → ⊥)
+Outcome m g old new s r = OutcomeOf m g (stack_of old s) old new r

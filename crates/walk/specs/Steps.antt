@@ -3,13 +3,14 @@
 use Rattle.std.specs.Prelude.{◌≡◌, ℕ, ◌+◌, ◌*◌, true, cond, List, length, is_ok, Some, None, Ok, Err, Option, Result, nat_lt}
 use Rattle.hierarchy.specs.Meaning.{Meaning}
 use Rattle.hierarchy.specs.Flat.{State, initial}
+use Rattle.hierarchy.specs.declared.Size.{Size}
 use Rattle.hierarchy.specs.declared.refusal.Refusal.{Refusal}
 use Rattle.hierarchy.specs.declared.refusal.Refusal.TheVariants.{TooLarge, TooLittleMemory, NoTransition}
 use Rattle.guide.specs.declared.GuideRecord.{GuideRecord}
 use Rattle.guide.specs.Trees.{Guide, Good}
 use Rattle.guide.specs.Layout.{guide_of}
 use Rattle.walk.specs.declared.frame.Frame.{Frame}
-use Rattle.walk.specs.declared.read.Plan.{Plan}
+use Rattle.walk.specs.declared.stand.Stand.{Stand}
 use Rattle.walk.specs.declared.steps.Walk.{Walk}
 use Rattle.walk.specs.Walks.{Stack, shown, advance, walk}
 use Rattle.walk.specs.Standing.{stack_of}
@@ -26,12 +27,20 @@ abbrev pub guide_for : Meaning → List GuideRecord → Walk → Guide
 guide_for m xs w = guide_home m xs (ring_home w)
 
 -- the levels of a walk; before its first step those with which every walk begins
+abbrev pub levels_at : Meaning → Guide → List Frame → Option Stand → Stack
+levels_at m g fs None = walk m g 0
+levels_at m g fs (Some s) = stack_of fs s
+
 abbrev pub levels : Meaning → Guide → Walk → List Frame → Stack
-levels m g w fs = cond w.fresh (walk m g 0) (stack_of fs w.stand)
+levels m g w fs = levels_at m g fs w.stand
 
 -- the flat state that a walk shows; before its first step the initial one
+abbrev pub shown_at : Meaning → List Frame → Option Stand → State
+shown_at m fs None = initial m 0
+shown_at m fs (Some s) = shown (stack_of fs s)
+
 abbrev pub state_shown : Meaning → Walk → List Frame → State
-state_shown m w fs = cond w.fresh (initial m 0) (shown (stack_of fs w.stand))
+state_shown m w fs = shown_at m fs w.stand
 
 -- what is amiss with so many guide records and frames, in the order in which it is refused
 abbrev pub lacking : Meaning → ℕ → ℕ → Option Refusal
@@ -39,10 +48,10 @@ lacking m records frames =
     cond m.large (Some TooLarge)
     (cond (nat_lt records ((m.structures + 1) * m.places)) (Some TooLittleMemory) (cond (nat_lt frames m.structures) (Some TooLittleMemory) None))
 
--- the size and the home of the ring, or that refusal
-abbrev pub plan_or : Meaning → ℕ → Option Refusal → Result Plan Refusal
-plan_or m home (Some k) = Err k
-plan_or m home None = Ok (record { structures = m.structures; places = m.places; home = home })
+-- the size, or that refusal
+abbrev pub size_or : Meaning → Option Refusal → Result Size Refusal
+size_or m (Some k) = Err k
+size_or m None = Ok (record { structures = m.structures; places = m.places })
 
 -- a call is refused for what is amiss, and else only because it finds no transition
 abbrev pub Answers : {X : Type 0} → Option Refusal → Result X Refusal → Type 0

@@ -1,12 +1,13 @@
 // One level of a walk: where it stands in one structure, and what it is on its way to.
 // Plain numbers: frames in any state may be lent.
 ghost use Rattle.std.specs.Prelude.{◌≡◌};
-ghost use Rattle.walk.specs.Levels.{blank_frame};
+ghost use Rattle.walk.specs.Levels.{blank_frame, is_pass_lem};
 
 // What a level is on its way to.
-#[derive(Clone, Copy, PartialEq, Eq, Debug)]
+#[derive(Clone, Copy, PartialEq, Eq, Debug, Default)]
 pub enum Way {
     // an exit, by which its structure is left
+    #[default]
     Pass,
     // an exit, past a mark
     PassMarked,
@@ -16,7 +17,15 @@ pub enum Way {
     Ring,
 }
 
-#[derive(Clone, Copy, PartialEq, Eq, Debug)]
+impl Way {
+    pub(crate) fn is_pass(self) -> bool
+        ensures { result ≡ is_pass_lem self }
+    {
+        matches!(self, Way::Pass | Way::PassMarked)
+    }
+}
+
+#[derive(Clone, Copy, PartialEq, Eq, Debug, Default)]
 pub struct Frame {
     // where the level stands: a box, but for the innermost level, which stands at a node
     pub place: usize,
@@ -31,11 +40,6 @@ impl Frame {
     pub fn blank() -> Frame
         ensures { result ≡ blank_frame }
     {
-        Frame {
-            place: 0,
-            way: Way::Pass,
-            goal: 0,
-            left: 0,
-        }
+        Frame::default()
     }
 }

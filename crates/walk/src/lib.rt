@@ -12,7 +12,7 @@ pub mod steps;
 
 pub use frame::{Frame, Way};
 pub use steps::journey::walk_on;
-pub use steps::{Walk, start};
+pub use steps::{Walk, start, walkable};
 
 // The walk by a good guide is an endless run, and it meets marked states without end.
 pub fn walking()

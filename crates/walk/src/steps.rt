@@ -6,8 +6,8 @@ ghost use Rattle.hierarchy.specs.Meaning.{Meaning};
 ghost use Rattle.guide.specs.Trees.{Guide};
 ghost use Rattle.judge.specs.Verdicts.{home_of};
 ghost use Rattle.walk.specs.Memory.{guide_by};
-ghost use Rattle.walk.specs.Standing.{Planned, stack_of};
-ghost use Rattle.walk.specs.Steps.{guide_for, levels, state_shown, lacking, plan_or, Answers, Same, Follows, Accepts, ring_home};
+ghost use Rattle.walk.specs.Standing.{stack_of};
+ghost use Rattle.walk.specs.Steps.{guide_for, levels, state_shown, lacking, size_or, Answers, Same, Follows, Accepts, ring_home};
 ghost use Rattle.walk.specs.Onward.{StartsRun, Onward};
 ghost use Rattle.walk.specs.Walks.{walk};
 
@@ -15,9 +15,9 @@ pub mod journey;
 mod show;
 
 use crate::frame::Frame;
+use crate::level::Guided;
 use crate::read::Plan;
 use crate::stand::Stand;
-use crate::{level, stand};
 use guide::GuideRecord;
 use hierarchy::{Hierarchy, Refusal, Size};
 use judge::FoundMark;
@@ -26,10 +26,8 @@ use judge::FoundMark;
 pub struct Walk {
     // the structure that has the ring
     home: usize,
-    // no step was made: the walk stands at the initial state
-    fresh: bool,
-    // after that, where it stands
-    stand: Stand,
+    // where it stands; before its first step, at the initial state
+    stand: Option<Stand>,
 }
 
 // A walk at the initial state. It spends the found mark: of each there is one walk.
@@ -41,47 +39,32 @@ pub fn start(found: FoundMark) -> Walk
 {
     Walk {
         home: found.spend(),
-        fresh: true,
-        stand: Stand {
-            depth: 0,
-            last: Frame::blank(),
-        },
+        stand: None,
     }
 }
 
 // The size of the hierarchy, if it can be walked with so many guide records and frames.
-fn plan_of<B: Hierarchy>(h: &B, records: usize, frames: usize, home: usize) -> Result<Plan, Refusal>
-    ensures { result ≡ plan_or (B.Hierarchy.meaning h.now) home (lacking (B.Hierarchy.meaning h.now) records frames) }
+pub fn walkable<B: Hierarchy>(h: &B, records: usize, frames: usize) -> Result<Size, Refusal>
+    ensures { result ≡ size_or (B.Hierarchy.meaning h.now) (lacking (B.Hierarchy.meaning h.now) records frames) }
 {
-    let Size::Fits(structures, places) = h.size() else {
-        return Err(Refusal::TooLarge);
-    };
-    if records < (structures + 1) * places {
+    let size = h.size().ok_or(Refusal::TooLarge)?;
+    if records < (size.structures + 1) * size.places || frames < size.structures {
         return Err(Refusal::TooLittleMemory);
     }
-    if frames < structures {
-        return Err(Refusal::TooLittleMemory);
-    }
-    Ok(Plan {
-        structures,
-        places,
-        home,
-    })
+    Ok(size)
 }
 
 impl Walk {
     // Where the walk stands; before its first step, on the way from the entry to the ring.
-    fn standing<B: Hierarchy>(&self, h: &B, guide: &[GuideRecord], plan: Plan) -> Stand
-        requires { Planned (B.Hierarchy.meaning h.now) plan }
-        ensures { (fs : List Frame) → stack_of fs result ≡ levels (B.Hierarchy.meaning h.now) (guide_by guide.now plan) self.now fs }
+    fn standing<B: Hierarchy>(&self, guided: &Guided<B>) -> Stand
+        ensures { (fs : List Frame) → stack_of fs result ≡ levels (B.Hierarchy.meaning guided.now.h.now) (guide_by guided.now.plan) self.now fs }
     {
-        if self.fresh {
-            Stand {
+        match self.stand {
+            Some(stand) => stand,
+            None => Stand {
                 depth: 0,
-                last: level::lead(h, guide, plan, 0),
-            }
-        } else {
-            self.stand
+                last: guided.lead(0),
+            },
         }
     }
 
@@ -100,15 +83,16 @@ impl Walk {
         ensures home { self.new.home ≡ self.old.home }
         ensures onward { Onward (B.Hierarchy.meaning h.now) guide.now self.old frames.old result self.new frames.new }
     {
-        let plan = plan_of(h, guide.len(), frames.len(), self.home)?;
-        let stand = self.standing(h, guide, plan);
-        match stand::moved(h, guide, plan, frames, stand) {
-            Some(next) => {
-                self.fresh = false;
-                self.stand = next;
-                Ok(())
-            }
-            None => Err(Refusal::NoTransition),
-        }
+        let size = walkable(h, guide.len(), frames.len())?;
+        let plan = Plan {
+            guide,
+            size,
+            home: self.home,
+        };
+        let guided = Guided { h, plan };
+        let stand = self.standing(&guided);
+        let next = guided.moved(frames, stand).ok_or(Refusal::NoTransition)?;
+        self.stand = Some(next);
+        Ok(())
     }
 }

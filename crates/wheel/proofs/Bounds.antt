@@ -2,7 +2,7 @@
 -- Assumes nothing.
 use Rattle.std.proofs.Common.{◌≡◌, ℕ, ◌<◌, ◌≤◌, true, ◌||◌, ⊎_elim, arith}
 use Rattle.std.proofs.lemmas.Bool.{or_cases}
-use Rattle.wheel.specs.Meaning.{is_entry_lem, is_item_lem, is_box_lem, largest}
+use Rattle.wheel.specs.Meaning.{size_of, is_entry_lem, is_item_lem, is_box_lem, largest}
 use Rattle.wheel.specs.Shapes.{entry_is, item_is, box_is, size_below_largest}
 use Rattle.wheel.specs.Made.{sizes_of}
 use Rattle.wheel.specs.declared.Wheel.{Wheel}
@@ -15,6 +15,9 @@ module _ (w : Wheel) where
 
   pub largest_small : largest (sizes_of w) ≤ 1022
   largest_small = made_right.small
+
+  pub size_small : (k : ℕ) → size_of (sizes_of w) k ≤ 1022
+  size_small k = omega (arith, size_below_largest (sizes_of w) k, made_right.small)
 
   pub item_level : (i p : ℕ) → is_item_lem (sizes_of w) i p ≡ true → i < 16
   item_level i p e = omega (arith, (item_is (sizes_of w) i p e).0, made_right.few)

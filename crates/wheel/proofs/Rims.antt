@@ -1,13 +1,10 @@
 -- Where a place of a wheel leads, and its letter, by the tests that the code makes.
 -- Assumes nothing.
-use Rattle.std.proofs.Common.{◌≡◌, ℕ, ◌+◌, ◌≤◌, Bool, true, false, ◌&&◌, ◌||◌, eqb, List, sym, refl, ap, ◌∙◌, ⊎_elim, arith}
+use Rattle.std.proofs.Common.{◌≡◌, ℕ, ◌+◌, ◌≤◌, true, false, ◌&&◌, ◌||◌, eqb, List, sym, ap, ◌∙◌, ⊎_elim, arith}
+use Rattle.std.proofs.Math.Bool.{and_assoc, or-false}
 use Rattle.std.proofs.lemmas.Bool.{cases_Bool, or_cases, and_right, cond-true, cond-false}
 use Rattle.wheel.specs.Meaning.{is_entry_lem, is_item_lem, is_end_lem, is_last, leads, letter_of, size_of}
 use Rattle.wheel.specs.Shapes.{entry_is, item_is, end_is}
-
-or_false : (b : Bool) → (b || false) ≡ b
-or_false true = refl
-or_false false = refl
 
 module _ (sizes : List ℕ) (k p : ℕ) where
   below_end : (is_entry_lem sizes k p || is_item_lem sizes k p) ≡ true → p ≤ size_of sizes k
@@ -22,11 +19,13 @@ module _ (sizes : List ℕ) (k p : ℕ) where
   unfolding leads
   leads_next w e =
       let back : (eqb k 0 && (is_end_lem sizes k p && eqb w 0)) ≡ false = and_right (eqb k 0) _ (ap (λ t. t && eqb w 0) (not_end e)) in
-      sym (ap (λ t. (t && eqb w (p + 1)) || (eqb k 0 && (is_end_lem sizes k p && eqb w 0))) e ∙ ap (λ t. eqb w (p + 1) || t) back ∙ or_false (eqb w (p + 1)))
+      sym (ap (λ t. (t && eqb w (p + 1)) || (eqb k 0 && (is_end_lem sizes k p && eqb w 0))) e ∙ ap (λ t. eqb w (p + 1) || t) back ∙ or-false (eqb w (p + 1)))
 
-  pub leads_back : (w : ℕ) → (is_entry_lem sizes k p || is_item_lem sizes k p) ≡ false → (eqb k 0 && (is_end_lem sizes k p && eqb w 0)) ≡ leads sizes k p w
+  pub leads_back : (w : ℕ) → (is_entry_lem sizes k p || is_item_lem sizes k p) ≡ false → ((eqb k 0 && is_end_lem sizes k p) && eqb w 0) ≡ leads sizes k p w
   unfolding leads
-  leads_back w e = sym (ap (λ t. (t && eqb w (p + 1)) || (eqb k 0 && (is_end_lem sizes k p && eqb w 0))) e)
+  leads_back w e =
+      and_assoc (eqb k 0) (is_end_lem sizes k p) (eqb w 0)
+      ∙ sym (ap (λ t. (t && eqb w (p + 1)) || (eqb k 0 && (is_end_lem sizes k p && eqb w 0))) e)
 
   pub letter_marked : (eqb k 0 && is_end_lem sizes k p) ≡ true → letter_of sizes k p ≡ 1
   unfolding letter_of

@@ -1,38 +1,25 @@
--- Sizes tested one by one, and what right sizes are.
+-- What right sizes are, and which of them is the largest.
 -- Assumes nothing.
-use Rattle.std.proofs.Common.{◌≡◌, ℕ, ◌+◌, ◌<◌, ◌≤◌, true, false, ◌&&◌, ◌||◌, ltb, leb, List, length, get_or, drop, ap, ◌∙◌, arith}
-use Rattle.std.proofs.lemmas.List.{at_drop_more}
+use Rattle.std.proofs.Common.{◌≡◌, ℕ, ◌≤◌, max, Option, None, Some, true, ◌&&◌, ltb, leb, List, [], ◌∷◌, length, fold, refl, arith}
 use Rattle.std.proofs.lemmas.Bool.{and_parts, ltb-true, leb-true}
-use Rattle.std.proofs.lemmas.Bool.Decides.{nat_tests}
+use Rattle.std.specs.List.{list_all, reduce}
+use Rattle.std.specs.Option.{option_map, unwrap_or}
 use Rattle.wheel.specs.Meaning.{all_sized, sizes_right, largest}
 use Rattle.wheel.specs.Shapes.{largest_small}
 
--- ---- the tests of the code
+pub sized_is : (sizes : List ℕ) → list_all (λ s. ltb 0 s && leb s 1022) sizes ≡ all_sized sizes
+sized_is [] = refl
+sized_is (s ∷ rest) = rw (sized_is rest)
 
-bad_size : (s : ℕ) → (ltb s 1 || ltb 1022 s) ≡ true → (ltb 0 s && leb s 1022) ≡ false
-bad_size s e = grind (arith, nat_tests)
+largest_from : (most : ℕ) (sizes : List ℕ) → fold max most sizes ≡ max most (largest sizes)
+largest_from most [] = omega arith
+largest_from most (s ∷ rest) = omega (arith, largest_from (max most s) rest)
 
-good_size : (s : ℕ) → (ltb s 1 || ltb 1022 s) ≡ false → (ltb 0 s && leb s 1022) ≡ true
-good_size s e = grind (arith, nat_tests)
-
-pub bad_count : (n : ℕ) → (ltb n 1 || ltb 16 n) ≡ true → (ltb 0 n && leb n 16) ≡ false
-bad_count n e = grind (arith, nat_tests)
-
-pub good_count : (n : ℕ) → (ltb n 1 || ltb 16 n) ≡ false → (ltb 0 n && leb n 16) ≡ true
-good_count n e = grind (arith, nat_tests)
-
-module _ (sizes : List ℕ) (i : ℕ) (h : i < length sizes) where
-  pub one_bad : (ltb (get_or sizes i 0) 1 || ltb 1022 (get_or sizes i 0)) ≡ true → all_sized (drop i sizes) ≡ false
-  one_bad e =
-      at_drop_more all_sized sizes i 0 h
-      ∙ ap (λ t. t && all_sized (drop (i + 1) sizes)) (bad_size (get_or sizes i 0) e)
-
-  pub one_good : (ltb (get_or sizes i 0) 1 || ltb 1022 (get_or sizes i 0)) ≡ false → all_sized (drop i sizes) ≡ all_sized (drop (i + 1) sizes)
-  one_good e =
-      at_drop_more all_sized sizes i 0 h
-      ∙ ap (λ t. t && all_sized (drop (i + 1) sizes)) (good_size (get_or sizes i 0) e)
-
--- ---- what the tests say
+pub most_is : (sizes : List ℕ) (most : Option ℕ) → option_map (λ x. x) most ≡ reduce max sizes → unwrap_or most 0 ≡ largest sizes
+most_is [] None e = refl
+most_is [] (Some m) e = cc
+most_is (s ∷ rest) None e = cc
+most_is (s ∷ rest) (Some m) e = let top : m ≡ fold max s rest = cc in omega (arith, largest_from s rest)
 
 pub record Right (sizes : List ℕ) : Type 0 where
   pub some : 1 ≤ length sizes

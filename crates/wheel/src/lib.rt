@@ -9,7 +9,8 @@ mod made;
 mod questions;
 
 // One structure a level, and in it as many items as the level's size; each item but those of the last level is a box
-// around the next level's structure. The first `levels` of `sizes` count.
+// around the next level's structure. The first `levels` of `sizes` count; they stand in an array, since a wheel is made
+// without memory of its own and is copied.
 #[derive(Clone, Copy)]
 pub struct Wheel {
     sizes: [usize; 16],

@@ -1,6 +1,7 @@
 // How a wheel is made of sizes, and what its sizes are.
 // Sizes are refused if there are none or more than 16, or if one is 0 or above 1,022.
-ghost use Rattle.std.specs.Prelude.{◌≡◌, ◌≤◌, length, take};
+ghost use Rattle.std.specs.Prelude.{◌≡◌, ◌≤◌, ◌&&◌, length, take, nat_le, nat_lt};
+ghost use Rattle.std.specs.List.{list_all};
 ghost use Rattle.wheel.specs.Meaning.{sizes_right, size_of};
 ghost use Rattle.wheel.specs.Made.{made, sizes_of, sizes_told};
 
@@ -34,22 +35,27 @@ impl Wheel {
         ensures size { result ≡ size_of (sizes_of self.now) k }
         ensures small { result ≤ 1022 }
     {
-        if k < self.levels { self.sizes[k] } else { 0 }
+        self.sizes().get(k).copied().unwrap_or(0)
+    }
+
+    // The sizes that count.
+    pub(crate) fn sizes(&self) -> &[usize]
+        ensures { result.now ≡ sizes_of self.now }
+    {
+        &self.sizes[..self.levels]
     }
 }
 
 fn are_right(sizes: &[usize]) -> bool
     ensures { result ≡ sizes_right sizes.now }
 {
-    if (sizes.len() < 1) | (sizes.len() > 16) {
-        return false;
-    }
-    for size in sizes {
-        if (*size < 1) | (*size > 1022) {
-            return false;
-        }
-    }
-    true
+    (1..=16).contains(&sizes.len()) && are_sized(sizes)
+}
+
+fn are_sized(sizes: &[usize]) -> bool
+    ensures { result ≡ list_all (λ s. nat_lt 0 s && nat_le s 1022) sizes.now }
+{
+    sizes.iter().all(|size| (1..=1022).contains(size))
 }
 
 // The sizes with room for the most levels.
@@ -59,8 +65,6 @@ fn copied(sizes: &[usize]) -> [usize; 16]
     ensures room { length result ≡ 16 }
 {
     let mut copy = [0; 16];
-    for (k, size) in sizes.iter().enumerate() {
-        copy[k] = *size;
-    }
+    copy[..sizes.len()].copy_from_slice(sizes);
     copy
 }

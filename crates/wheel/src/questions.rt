@@ -1,6 +1,6 @@
 // A wheel as a hierarchy. Structure i has an entry 0, items from 1 to its size, and an end.
 // The size takes as many steps as there are levels, any other answer a constant number.
-ghost use Rattle.std.specs.Prelude.{◌≡◌};
+ghost use Rattle.std.specs.Prelude.{◌≡◌, ◌&&◌, ◌==◌};
 ghost use Rattle.wheel.specs.Meaning.{wheel, is_entry_lem, is_item_lem, is_end_lem, is_last, is_box_lem, leads, largest};
 ghost use Rattle.wheel.specs.Made.{sizes_of, made_lawful};
 
@@ -12,8 +12,11 @@ impl Hierarchy for Wheel {
 
     ghost lawful = { made_lawful };
 
-    fn size(&self) -> Size {
-        Size::Fits(self.levels(), self.largest() + 2)
+    fn size(&self) -> Option<Size> {
+        Some(Size {
+            structures: self.levels(),
+            places: self.largest() + 2,
+        })
     }
 
     fn place(&self, i: usize, p: usize) -> Place {
@@ -23,7 +26,7 @@ impl Hierarchy for Wheel {
             } else {
                 Place::Box(i + 1)
             }
-        } else if self.is_entry(i, p) | self.is_end(i, p) {
+        } else if self.is_entry(i, p) || self.is_end(i, p) {
             Place::Node
         } else {
             Place::Absent
@@ -39,10 +42,10 @@ impl Hierarchy for Wheel {
     }
 
     fn look(&self, i: usize, p: usize) -> Look {
-        let mark = (i == 0) & self.is_end(i, p);
+        let mark = self.is_outer_end(i, p);
         let letter = if mark {
             1
-        } else if self.is_item(i, p) & self.is_last(i) {
+        } else if self.is_item(i, p) && self.is_last(i) {
             2
         } else {
             0
@@ -51,36 +54,41 @@ impl Hierarchy for Wheel {
     }
 
     fn has_edge(&self, i: usize, p: usize, w: usize) -> bool {
-        !self.is_box(i, p) & self.leads(i, p, w)
+        !self.is_box(i, p) && self.leads(i, p, w)
     }
 
     // A box is left by its inner end.
     fn has_leave(&self, i: usize, b: usize, e: usize, w: usize) -> bool {
-        if !self.is_box(i, b) {
-            return false;
-        }
-        self.is_end(i + 1, e) & self.leads(i, b, w)
+        self.is_box(i, b) && self.is_end(i + 1, e) && self.leads(i, b, w)
     }
 }
 
 // The tests that the answers are made of.
+#[tactic(auto, using(std::proofs::lemmas::Bool::Decides::nat_tests), unfolding(crate::specs::Meaning::is_entry_lem, crate::specs::Meaning::is_item_lem, crate::specs::Meaning::is_end_lem, crate::specs::Meaning::is_box_lem))]
 impl Wheel {
     fn is_entry(&self, i: usize, p: usize) -> bool
         ensures { result ≡ is_entry_lem (sizes_of self.now) i p }
     {
-        (i < self.levels()) & (p == 0)
+        i < self.levels() && p == 0
     }
 
     fn is_item(&self, i: usize, p: usize) -> bool
         ensures { result ≡ is_item_lem (sizes_of self.now) i p }
     {
-        (i < self.levels()) & ((0 < p) & (p <= self.level_size(i)))
+        i < self.levels() && 0 < p && p <= self.level_size(i)
     }
 
     fn is_end(&self, i: usize, p: usize) -> bool
         ensures { result ≡ is_end_lem (sizes_of self.now) i p }
     {
-        (i < self.levels()) & (p == self.level_size(i) + 1)
+        i < self.levels() && p == self.level_size(i) + 1
+    }
+
+    // Whether this is the end of structure 0.
+    fn is_outer_end(&self, i: usize, p: usize) -> bool
+        ensures { result ≡ (i == 0 && is_end_lem (sizes_of self.now) i p) }
+    {
+        i == 0 && self.is_end(i, p)
     }
 
     // Whether structure `i` is the last.
@@ -93,30 +101,23 @@ impl Wheel {
     fn is_box(&self, i: usize, p: usize) -> bool
         ensures { result ≡ is_box_lem (sizes_of self.now) i p }
     {
-        self.is_item(i, p) & !self.is_last(i)
+        self.is_item(i, p) && !self.is_last(i)
     }
 
     // Whether the place `p` of structure `i` leads to `w`: each leads to the next, and the end of structure 0 to 0.
     fn leads(&self, i: usize, p: usize, w: usize) -> bool
         ensures { result ≡ leads (sizes_of self.now) i p w }
     {
-        if self.is_entry(i, p) | self.is_item(i, p) {
+        if self.is_entry(i, p) || self.is_item(i, p) {
             return w == p + 1;
         }
-        (i == 0) & (self.is_end(i, p) & (w == 0))
+        self.is_outer_end(i, p) && w == 0
     }
 
     // The largest size of a level.
     fn largest(&self) -> usize
         ensures { result ≡ largest (sizes_of self.now) }
     {
-        let mut most = 0;
-        for k in 0..self.levels() {
-            let size = self.level_size(k);
-            if size > most {
-                most = size;
-            }
-        }
-        most
+        self.sizes().iter().copied().max().unwrap_or(0)
     }
 }

@@ -4,9 +4,8 @@ use Rattle.std.specs.Prelude.{◌≡◌, ℕ, Bool, true, false, ◌&&◌, List,
 use Rattle.std.specs.Result.{result_err}
 use Rattle.hierarchy.specs.Meaning.{Meaning}
 use Rattle.hierarchy.specs.Flat.{Reaches, Recurs}
-use Rattle.hierarchy.specs.Answers.{size_told}
+use Rattle.hierarchy.specs.Answers.{size_told, fits}
 use Rattle.hierarchy.specs.Refusals.{refusal_number}
-use Rattle.hierarchy.specs.declared.Size.TheVariants.{Fits}
 use Rattle.hierarchy.specs.declared.refusal.Refusal.{Refusal}
 use Rattle.sheet.specs.declared.Edit.{Edit}
 use Rattle.sheet.specs.Sheet.{Sheet, meaning_of}
@@ -61,7 +60,7 @@ number (Some r) = refusal_number r
 abbrev pub Holds : Case → Claim → Type 0
 Holds c (reach told) = Told told (Reaches (pile_of c))
 Holds c (recur told) = Told told (Recurs (pile_of c))
-Holds c (size structures places) = size_told (pile_of c) ≡ Fits structures places
+Holds c (size structures places) = size_told (pile_of c) ≡ fits structures places
 Holds c (unjudged n) = (records : ℕ) → number (judge_refusal (pile_of c) records) ≡ n
 Holds c (refused edit n) = number (result_err (applied (sheet_of c) edit).answer) ≡ n
 

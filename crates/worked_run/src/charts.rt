@@ -4,19 +4,36 @@ use crate::tell::tell_chart;
 use chart::Chart;
 use guide::GuideRecord;
 use hierarchy::Refusal;
+use sheet::Edit;
 use std::io;
 
-fn marked_entry() -> Result<Chart, Refusal> {
-    let mut chart = Chart::new();
-    chart.begin(1)?;
-    chart.look(0, 0, 128)?;
+// From the entry of structure 0 to itself.
+const TURN: Edit = Edit::Edge { i: 0, p: 0, w: 0 };
+
+// A chart with one edit more.
+fn edited(chart: Result<Chart, Refusal>, edit: Edit) -> Result<Chart, Refusal> {
+    let mut chart = chart?;
+    chart.apply(edit)?;
     Ok(chart)
 }
 
+fn new() -> Result<Chart, Refusal> {
+    Ok(Chart::new())
+}
+
+fn marked_entry() -> Result<Chart, Refusal> {
+    edited(
+        new(),
+        Edit::Look {
+            i: 0,
+            p: 0,
+            look: 128,
+        },
+    )
+}
+
 fn turning_entry() -> Result<Chart, Refusal> {
-    let mut chart = marked_entry()?;
-    chart.edge(0, 0, 0)?;
-    Ok(chart)
+    edited(marked_entry(), TURN)
 }
 
 // The entry leads to box 1, whose inner entry leads to its exit 1; box 1 leads by this exit to node 2, marked and of
@@ -35,18 +52,6 @@ pub fn ring() -> Result<Chart, Refusal> {
     Ok(chart)
 }
 
-fn open_ring() -> Result<Chart, Refusal> {
-    let mut chart = ring()?;
-    chart.unedge(0, 2, 1)?;
-    Ok(chart)
-}
-
-fn blocked_ring() -> Result<Chart, Refusal> {
-    let mut chart = ring()?;
-    chart.unedge(1, 0, 1)?;
-    Ok(chart)
-}
-
 // A chart whose structure 0 has as many places as there is room for.
 pub fn full(structures: usize) -> Result<Chart, Refusal> {
     let mut chart = Chart::new();
@@ -57,47 +62,27 @@ pub fn full(structures: usize) -> Result<Chart, Refusal> {
     Ok(chart)
 }
 
-fn box_in_itself() -> Result<Chart, Refusal> {
-    let mut chart = Chart::new();
-    chart.begin(1)?;
-    chart.add_box(0, 0)?;
-    Ok(chart)
-}
-
-fn box_of_nothing() -> Result<Chart, Refusal> {
-    let mut chart = Chart::new();
-    chart.begin(1)?;
-    chart.add_box(0, 1)?;
-    Ok(chart)
-}
-
-fn one_place_more() -> Result<Chart, Refusal> {
-    let mut chart = full(1)?;
-    chart.node(0, 0)?;
-    Ok(chart)
-}
-
-fn same_edge_twice() -> Result<Chart, Refusal> {
-    let mut chart = turning_entry()?;
-    chart.edge(0, 0, 0)?;
-    Ok(chart)
-}
-
 fn tell_rings(rt: &HostRuntime, guide: &mut [GuideRecord]) -> io::Result<()> {
+    let open = edited(ring(), Edit::Unedge { i: 0, p: 2, w: 1 });
+    let blocked = edited(ring(), Edit::Unedge { i: 1, p: 0, w: 1 });
     tell_chart(rt, "ring", ring(), guide)?;
-    tell_chart(rt, "ring without edge 2 to 1", open_ring(), guide)?;
-    tell_chart(rt, "ring without inner edge 0 to 1", blocked_ring(), guide)
+    tell_chart(rt, "ring without edge 2 to 1", open, guide)?;
+    tell_chart(rt, "ring without inner edge 0 to 1", blocked, guide)
 }
 
 fn tell_refused(rt: &HostRuntime, guide: &mut [GuideRecord]) -> io::Result<()> {
-    tell_chart(rt, "box in itself", box_in_itself(), guide)?;
-    tell_chart(rt, "box of nothing", box_of_nothing(), guide)?;
-    tell_chart(rt, "17th place", one_place_more(), guide)?;
-    tell_chart(rt, "same edge twice", same_edge_twice(), guide)
+    let in_itself = edited(new(), Edit::Box { i: 0, inner: 0 });
+    let of_nothing = edited(new(), Edit::Box { i: 0, inner: 1 });
+    let one_more = edited(full(1), Edit::Node { i: 0, look: 0 });
+    let twice = edited(turning_entry(), TURN);
+    tell_chart(rt, "box in itself", in_itself, guide)?;
+    tell_chart(rt, "box of nothing", of_nothing, guide)?;
+    tell_chart(rt, "17th place", one_more, guide)?;
+    tell_chart(rt, "same edge twice", twice, guide)
 }
 
 pub fn tell_charts(rt: &HostRuntime, guide: &mut [GuideRecord]) -> io::Result<()> {
-    tell_chart(rt, "new chart", Ok(Chart::new()), guide)?;
+    tell_chart(rt, "new chart", new(), guide)?;
     tell_chart(rt, "entry marked", marked_entry(), guide)?;
     tell_chart(rt, "entry marked, turning", turning_entry(), guide)?;
     tell_rings(rt, guide)?;

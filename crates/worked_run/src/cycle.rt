@@ -1,6 +1,6 @@
 // How long a cycle is, counted by walking round it once.
 // It is the number of its flat states only where each flat state leads to one other.
-use crate::tell::tell_refusal;
+use crate::tell::tell_made;
 use guide::GuideRecord;
 use hierarchy::{Hierarchy, Refusal};
 use judge::{FoundMark, judge};
@@ -51,9 +51,13 @@ pub fn tell_cycle<B: Hierarchy>(
     h: &B,
     guide: &mut [GuideRecord],
 ) -> io::Result<()> {
-    match cycle_length(h, guide, 100000) {
-        Ok(Some(length)) => println!(rt; "{name}: one cycle of {length} flat states"),
-        Ok(None) => println!(rt; "{name}: no short cycle"),
-        Err(refusal) => tell_refusal(rt, name, refusal),
-    }
+    tell_made(
+        rt,
+        name,
+        cycle_length(h, guide, 100000),
+        |length| match length {
+            Some(length) => println!(rt; "{name}: one cycle of {length} flat states"),
+            None => println!(rt; "{name}: no short cycle"),
+        },
+    )
 }

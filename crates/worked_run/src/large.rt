@@ -1,7 +1,7 @@
 // Wheels and a chart with far too many flat states to be unfolded.
 // Each is judged by one search of each structure.
 use crate::cycle::tell_cycle;
-use crate::tell::{tell, tell_chart, tell_refusal};
+use crate::tell::{tell, tell_chart, tell_made};
 use chart::Chart;
 use guide::GuideRecord;
 use hierarchy::Refusal;
@@ -34,8 +34,8 @@ fn nested() -> Result<Chart, Refusal> {
     chart.exit(31, 1)?;
     chart.edge(31, 0, 1)?;
     nest(&mut chart, 30, 31, 1, 0)?;
-    for k in 0..29 {
-        nest(&mut chart, 29 - k, 30 - k, 3, 0)?;
+    for i in (1..30).rev() {
+        nest(&mut chart, i, i + 1, 3, 0)?;
     }
     nest(&mut chart, 0, 1, 3, 128)?;
     chart.edge(0, 3, 0)?;
@@ -48,28 +48,25 @@ fn tell_wheel(
     sizes: &[usize],
     guide: &mut [GuideRecord],
 ) -> io::Result<()> {
-    match Wheel::new(sizes) {
-        Ok(wheel) => tell(rt, name, &wheel, guide),
-        Err(refusal) => tell_refusal(rt, name, refusal),
-    }
+    tell_made(
+        rt,
+        name,
+        Wheel::new(sizes),
+        |wheel| tell(rt, name, &wheel, guide),
+    )
 }
 
 // The flat form of a wheel is one cycle, here short enough to be walked.
-fn tell_wheel_cycle(
-    rt: &HostRuntime,
-    name: &str,
-    sizes: &[usize],
-    guide: &mut [GuideRecord],
-) -> io::Result<()> {
-    match Wheel::new(sizes) {
-        Ok(wheel) => tell_cycle(rt, name, &wheel, guide),
-        Err(refusal) => tell_refusal(rt, name, refusal),
-    }
+fn tell_day(rt: &HostRuntime, guide: &mut [GuideRecord]) -> io::Result<()> {
+    let name = "wheel 24, 60, 60";
+    tell_made(rt, name, Wheel::new(&[24, 60, 60]), |wheel| {
+        tell(rt, name, &wheel, guide)?;
+        tell_cycle(rt, name, &wheel, guide)
+    })
 }
 
 pub fn tell_large(rt: &HostRuntime, guide: &mut [GuideRecord]) -> io::Result<()> {
-    tell_wheel(rt, "wheel 24, 60, 60", &[24, 60, 60], guide)?;
-    tell_wheel_cycle(rt, "wheel 24, 60, 60", &[24, 60, 60], guide)?;
+    tell_day(rt, guide)?;
     tell_wheel(rt, "largest wheel", &[1022; 16], guide)?;
     tell_wheel(rt, "one item more", &[1023], guide)?;
     tell_chart(rt, "nested chart", nested(), guide)

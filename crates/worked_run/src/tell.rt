@@ -27,7 +27,7 @@ pub fn tell<B: Hierarchy>(
     guide: &mut [GuideRecord],
 ) -> io::Result<()> {
     print!(rt; "{name}: ")?;
-    if let Size::Fits(structures, places) = h.size() {
+    if let Some(Size { structures, places }) = h.size() {
         print!(rt; "size {structures} {places}, ")?;
     }
     tell_judgment(rt, h, guide)
@@ -51,10 +51,22 @@ fn tell_judgment<B: Hierarchy>(
     }
 }
 
-// What could not be made.
-pub fn tell_refusal(rt: &HostRuntime, name: &str, refusal: Refusal) -> io::Result<()> {
-    let number = refusal.number();
-    println!(rt; "{name}: refused {number}")
+// What was made is told by a function; what could not be made, by its refusal.
+pub fn tell_made<T, F: FnOnce(T) -> io::Result<()> + Drop>(
+    rt: &HostRuntime,
+    name: &str,
+    made: Result<T, Refusal>,
+    tell: F,
+) -> io::Result<()>
+    requires { F.IsAlwaysCallable tell }
+{
+    match made {
+        Ok(made) => tell(made),
+        Err(refusal) => {
+            let number = refusal.number();
+            println!(rt; "{name}: refused {number}")
+        }
+    }
 }
 
 // A chart as its edits made it, or the refusal of one of them.
@@ -64,10 +76,7 @@ pub fn tell_chart(
     chart: Result<Chart, Refusal>,
     guide: &mut [GuideRecord],
 ) -> io::Result<()> {
-    match chart {
-        Ok(chart) => tell(rt, name, &chart, guide),
-        Err(refusal) => tell_refusal(rt, name, refusal),
-    }
+    tell_made(rt, name, chart, |chart| tell(rt, name, &chart, guide))
 }
 
 // A chart under one monitor.
@@ -77,28 +86,22 @@ pub fn tell_under(
     watched: Result<Watched, Refusal>,
     guide: &mut [GuideRecord],
 ) -> io::Result<()> {
-    match watched {
-        Ok(watched) => {
-            let layer = Layer::new(&watched.chart, &watched.monitor);
-            tell(rt, name, &layer, guide)
-        }
-        Err(refusal) => tell_refusal(rt, name, refusal),
-    }
+    tell_made(rt, name, watched, |watched| {
+        let layer = Layer::new(&watched.chart, &watched.monitor);
+        tell(rt, name, &layer, guide)
+    })
 }
 
-// A chart under the same monitor twice.
+// A chart under the same monitor twice. Layers nest in types, so their number is no argument.
 pub fn tell_under_two(
     rt: &HostRuntime,
     name: &str,
     watched: Result<Watched, Refusal>,
     guide: &mut [GuideRecord],
 ) -> io::Result<()> {
-    match watched {
-        Ok(watched) => {
-            let one = Layer::new(&watched.chart, &watched.monitor);
-            let two = Layer::new(&one, &watched.monitor);
-            tell(rt, name, &two, guide)
-        }
-        Err(refusal) => tell_refusal(rt, name, refusal),
-    }
+    tell_made(rt, name, watched, |watched| {
+        let one = Layer::new(&watched.chart, &watched.monitor);
+        let two = Layer::new(&one, &watched.monitor);
+        tell(rt, name, &two, guide)
+    })
 }

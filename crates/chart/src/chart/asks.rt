@@ -14,16 +14,16 @@ impl Hierarchy for Chart {
 
     ghost lawful = { chart_lawful };
 
-    fn size(&self) -> Size {
-        Size::Fits(self.structures(), self.most)
+    fn size(&self) -> Option<Size> {
+        Some(Size {
+            structures: self.structures(),
+            places: self.most,
+        })
     }
 
     fn place(&self, i: usize, p: usize) -> Place {
-        if i >= self.structures() {
-            return Place::Absent;
-        }
-        match self.row(i).spot(p) {
-            Some(Spot::Node { look: _, exit: _ }) => Place::Node,
+        match self.find_row(i).and_then(|row| row.spot(p)) {
+            Some(Spot::Node { .. }) => Place::Node,
             Some(Spot::Box { inner }) => Place::Box(inner),
             None => Place::Absent,
         }
@@ -34,17 +34,11 @@ impl Hierarchy for Chart {
     }
 
     fn is_exit(&self, i: usize, p: usize) -> bool {
-        self.has_exit(i, p)
+        self.find_row(i).is_some_and(|row| row.is_exit(p))
     }
 
     fn look(&self, i: usize, p: usize) -> Look {
-        if i >= self.structures() {
-            return Look {
-                letter: 0,
-                mark: false,
-            };
-        }
-        let look = self.row(i).look(p);
+        let look = self.find_row(i).map_or(0, |row| row.look(p));
         Look {
             letter: look % 16,
             mark: look >= 128,
@@ -52,20 +46,10 @@ impl Hierarchy for Chart {
     }
 
     fn has_edge(&self, i: usize, p: usize, w: usize) -> bool {
-        let structures = self.structures();
-        let places = self.most;
-        if i >= structures || p >= places || w >= places {
-            return false;
-        }
-        self.row(i).is_edge(p, w)
+        self.find_row(i).is_some_and(|row| row.is_edge(p, w))
     }
 
     fn has_leave(&self, i: usize, b: usize, e: usize, w: usize) -> bool {
-        let structures = self.structures();
-        let places = self.most;
-        if i >= structures || b >= places || e >= places || w >= places {
-            return false;
-        }
-        self.row(i).is_leave(b, e, w)
+        self.find_row(i).is_some_and(|row| row.is_leave(b, e, w))
     }
 }

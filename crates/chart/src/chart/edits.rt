@@ -1,12 +1,13 @@
 // The edits of edges and leaves.
 ghost use Rattle.std.specs.Prelude.{◌≡◌, ◌<◌, true, false, [], ◌∷◌, is_ok};
 ghost use Rattle.chart.specs.Charts.{sheet};
-ghost use Rattle.sheet.specs.Sheet.{spot, exit?};
+ghost use Rattle.std.specs.Result.{result_err};
 ghost use Rattle.hierarchy.specs.Refusals.{first};
 ghost use Rattle.sheet.specs.Edits as edit;
 
 use crate::chart::Chart;
-use hierarchy::Refusal;
+use hierarchy::{Hierarchy, Refusal};
+use sheet::Spot;
 
 impl Chart {
     // Adds an edge from the node `p` to the place `w` of structure `i`.
@@ -45,19 +46,19 @@ impl Chart {
         self.set_leave(i, b, e, w, false)
     }
 
+    // Whether the edge is to be there is a `bool`, as it is for the sheet: both edits have one definition.
     fn set_edge(&mut self, i: usize, p: usize, w: usize, there: bool) -> Result<(), Refusal>
         ensures answer { result ≡ (edit.set_edge_lem (sheet self.old) i p w there).answer }
         ensures after { sheet self.new ≡ (edit.set_edge_lem (sheet self.old) i p w there).sheet }
         ensures unchanged { is_ok result ≡ false → self.new ≡ self.old }
     {
-        if let Some(refusal) = self.edge_refusal(i, p, w, there) {
-            return Err(refusal);
-        }
+        self.check_edge(i, p, w, there)?;
         let row = self.row(i);
         self.write(i, row.with_edge(p, w, there));
         Ok(())
     }
 
+    // The same of a leave.
     fn set_leave(
         &mut self,
         i: usize,
@@ -70,71 +71,54 @@ impl Chart {
         ensures after { sheet self.new ≡ (edit.set_leave_lem (sheet self.old) i b e w there).sheet }
         ensures unchanged { is_ok result ≡ false → self.new ≡ self.old }
     {
-        if let Some(refusal) = self.leave_refusal(i, b, e, w, there) {
-            return Err(refusal);
-        }
+        self.check_leave(i, b, e, w, there)?;
         let row = self.row(i);
         self.write(i, row.with_leave(b, e, w, there));
         Ok(())
     }
 
-    fn edge_refusal(&self, i: usize, p: usize, w: usize, there: bool) -> Option<Refusal>
-        ensures { result ≡ first (edit.edge_refusals (sheet self.now) i p w there) }
+    fn check_edge(&self, i: usize, p: usize, w: usize, there: bool) -> Result<(), Refusal>
+        ensures { result_err result ≡ first (edit.edge_refusals (sheet self.now) i p w there) }
     {
-        if i >= self.structures() {
-            return Some(Refusal::NoStructure);
+        let row = self.find_row(i).ok_or(Refusal::NoStructure)?;
+        let from = row.spot(p).ok_or(Refusal::NoPlace)?;
+        row.spot(w).ok_or(Refusal::NoPlace)?;
+        match from {
+            Spot::Node { .. } => check_change(there, row.is_edge(p, w)),
+            Spot::Box { .. } => Err(Refusal::NotANode),
         }
-        let row = self.row(i);
-        let size = row.size();
-        if p >= size || w >= size {
-            return Some(Refusal::NoPlace);
-        }
-        if !row.is_node(p) {
-            return Some(Refusal::NotANode);
-        }
-        already(there, row.is_edge(p, w))
     }
 
-    fn leave_refusal(&self, i: usize, b: usize, e: usize, w: usize, there: bool) -> Option<Refusal>
-        ensures { result ≡ first (edit.leave_refusals (sheet self.now) i b e w there) }
+    fn check_leave(
+        &self,
+        i: usize,
+        b: usize,
+        e: usize,
+        w: usize,
+        there: bool,
+    ) -> Result<(), Refusal>
+        ensures { result_err result ≡ first (edit.leave_refusals (sheet self.now) i b e w there) }
     {
-        if i >= self.structures() {
-            return Some(Refusal::NoStructure);
+        let row = self.find_row(i).ok_or(Refusal::NoStructure)?;
+        let from = row.spot(b).ok_or(Refusal::NoPlace)?;
+        row.spot(w).ok_or(Refusal::NoPlace)?;
+        match from {
+            Spot::Box { inner } if self.is_exit(inner, e) => {
+                check_change(there, row.is_leave(b, e, w))
+            }
+            Spot::Box { .. } => Err(Refusal::NotAnExit),
+            Spot::Node { .. } => Err(Refusal::NotABox),
         }
-        let row = self.row(i);
-        let size = row.size();
-        if b >= size || w >= size {
-            return Some(Refusal::NoPlace);
-        }
-        if !row.is_box(b) {
-            return Some(Refusal::NotABox);
-        }
-        if !self.has_exit(row.inner(b), e) {
-            return Some(Refusal::NotAnExit);
-        }
-        already(there, row.is_leave(b, e, w))
-    }
-
-    // Whether a place is an exit.
-    pub(crate) fn has_exit(&self, i: usize, e: usize) -> bool
-        ensures is { result ≡ exit? (spot (sheet self.now) i e) }
-        ensures few { result ≡ true → e < 16 }
-    {
-        if i >= self.structures() {
-            return false;
-        }
-        let row = self.row(i);
-        row.is_exit(e)
     }
 }
 
-// Why what is there cannot be added, or what is not there cannot be erased.
-fn already(add: bool, there: bool) -> Option<Refusal>
-    ensures { result ≡ first (edit.already add there ∷ []) }
+// What is there already cannot be added, and what is not there cannot be erased.
+fn check_change(add: bool, there: bool) -> Result<(), Refusal>
+    ensures { result_err result ≡ first (edit.already add there ∷ []) }
 {
     match (add, there) {
-        (true, true) => Some(Refusal::AlreadyThere),
-        (false, false) => Some(Refusal::NotThere),
-        _ => None,
+        (true, true) => Err(Refusal::AlreadyThere),
+        (false, false) => Err(Refusal::NotThere),
+        _ => Ok(()),
     }
 }

@@ -1,5 +1,6 @@
 // The edits of places: a node or a box more, a node made an exit, a node's look.
 ghost use Rattle.std.specs.Prelude.{◌≡◌, ◌<◌, true, false, length, is_ok, Some};
+ghost use Rattle.std.specs.Result.{result_err};
 ghost use Rattle.chart.specs.Charts.{sheet};
 ghost use Rattle.sheet.specs.Sheet.{at, spot, node?, exit?, look};
 ghost use Rattle.sheet.specs.Laws.{later};
@@ -20,9 +21,7 @@ impl Chart {
         ensures after { sheet self.new ≡ (edit.node (sheet self.old) i look).sheet }
         ensures unchanged { is_ok result ≡ false → self.new ≡ self.old }
     {
-        if let Some(refusal) = self.node_refusal(i, look) {
-            return Err(refusal);
-        }
+        self.check_node(i, look)?;
         Ok(self.add(i, Spot::Node { look, exit: false }))
     }
 
@@ -32,9 +31,7 @@ impl Chart {
         ensures after { sheet self.new ≡ (edit.box (sheet self.old) i inner).sheet }
         ensures unchanged { is_ok result ≡ false → self.new ≡ self.old }
     {
-        if let Some(refusal) = self.box_refusal(i, inner) {
-            return Err(refusal);
-        }
+        self.check_box(i, inner)?;
         Ok(self.add(i, Spot::Box { inner }))
     }
 
@@ -44,9 +41,7 @@ impl Chart {
         ensures after { sheet self.new ≡ (edit.exit (sheet self.old) i p).sheet }
         ensures unchanged { is_ok result ≡ false → self.new ≡ self.old }
     {
-        if let Some(refusal) = self.exit_refusal(i, p) {
-            return Err(refusal);
-        }
+        self.check_exit(i, p)?;
         let look = self.row(i).look(p);
         self.write_node(i, p, look, true);
         Ok(())
@@ -58,9 +53,7 @@ impl Chart {
         ensures after { sheet self.new ≡ (edit.relook (sheet self.old) i p look).sheet }
         ensures unchanged { is_ok result ≡ false → self.new ≡ self.old }
     {
-        if let Some(refusal) = self.look_refusal(i, p, look) {
-            return Err(refusal);
-        }
+        self.check_look(i, p, look)?;
         let exit = self.row(i).is_exit(p);
         self.write_node(i, p, look, exit);
         Ok(())
@@ -91,71 +84,56 @@ impl Chart {
         self.write(i, row.with_spot(p, Spot::Node { look, exit }));
     }
 
-    fn node_refusal(&self, i: usize, look: u8) -> Option<Refusal>
-        ensures { result ≡ first (edit.node_refusals (sheet self.now) i look) }
+    fn check_node(&self, i: usize, look: u8) -> Result<(), Refusal>
+        ensures { result_err result ≡ first (edit.node_refusals (sheet self.now) i look) }
     {
         if look & 0x70 != 0 {
-            return Some(Refusal::ReservedLookBit);
+            return Err(Refusal::ReservedLookBit);
         }
-        if i >= self.structures() {
-            return Some(Refusal::NoStructure);
+        let row = self.find_row(i).ok_or(Refusal::NoStructure)?;
+        if row.size() >= PLACES {
+            return Err(Refusal::Full);
         }
-        if self.row(i).size() >= PLACES {
-            return Some(Refusal::Full);
-        }
-        None
+        Ok(())
     }
 
-    fn box_refusal(&self, i: usize, inner: usize) -> Option<Refusal>
-        ensures { result ≡ first (edit.box_refusals (sheet self.now) i inner) }
+    fn check_box(&self, i: usize, inner: usize) -> Result<(), Refusal>
+        ensures { result_err result ≡ first (edit.box_refusals (sheet self.now) i inner) }
     {
         if inner <= i {
-            return Some(Refusal::BoxNotBelow);
+            return Err(Refusal::BoxNotBelow);
         }
         if inner >= self.structures() {
-            return Some(Refusal::NoStructure);
+            return Err(Refusal::NoStructure);
         }
-        if self.row(i).size() >= PLACES {
-            return Some(Refusal::Full);
+        let row = self.find_row(i).ok_or(Refusal::NoStructure)?;
+        if row.size() >= PLACES {
+            return Err(Refusal::Full);
         }
-        None
+        Ok(())
     }
 
-    fn exit_refusal(&self, i: usize, p: usize) -> Option<Refusal>
-        ensures { result ≡ first (edit.exit_refusals (sheet self.now) i p) }
+    fn check_exit(&self, i: usize, p: usize) -> Result<(), Refusal>
+        ensures { result_err result ≡ first (edit.exit_refusals (sheet self.now) i p) }
     {
-        if i >= self.structures() {
-            return Some(Refusal::NoStructure);
+        let row = self.find_row(i).ok_or(Refusal::NoStructure)?;
+        match row.spot(p).ok_or(Refusal::NoPlace)? {
+            Spot::Node { exit: false, .. } => Ok(()),
+            Spot::Node { exit: true, .. } => Err(Refusal::AlreadyThere),
+            Spot::Box { .. } => Err(Refusal::NotANode),
         }
-        let row = self.row(i);
-        if p >= row.size() {
-            return Some(Refusal::NoPlace);
-        }
-        if !row.is_node(p) {
-            return Some(Refusal::NotANode);
-        }
-        if row.is_exit(p) {
-            return Some(Refusal::AlreadyThere);
-        }
-        None
     }
 
-    fn look_refusal(&self, i: usize, p: usize, look: u8) -> Option<Refusal>
-        ensures { result ≡ first (edit.look_refusals (sheet self.now) i p look) }
+    fn check_look(&self, i: usize, p: usize, look: u8) -> Result<(), Refusal>
+        ensures { result_err result ≡ first (edit.look_refusals (sheet self.now) i p look) }
     {
         if look & 0x70 != 0 {
-            return Some(Refusal::ReservedLookBit);
+            return Err(Refusal::ReservedLookBit);
         }
-        if i >= self.structures() {
-            return Some(Refusal::NoStructure);
+        let row = self.find_row(i).ok_or(Refusal::NoStructure)?;
+        match row.spot(p).ok_or(Refusal::NoPlace)? {
+            Spot::Node { .. } => Ok(()),
+            Spot::Box { .. } => Err(Refusal::NotANode),
         }
-        let row = self.row(i);
-        if p >= row.size() {
-            return Some(Refusal::NoPlace);
-        }
-        if !row.is_node(p) {
-            return Some(Refusal::NotANode);
-        }
-        None
     }
 }

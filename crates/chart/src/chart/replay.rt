@@ -15,32 +15,14 @@ impl Chart {
         ensures unchanged { is_ok result ≡ false → self.new ≡ self.old }
     {
         match edit {
-            Edit::Node { i, look } => Ok(Some(self.node(i, look)?)),
-            Edit::Box { i, inner } => Ok(Some(self.add_box(i, inner)?)),
-            Edit::Exit { i, p } => {
-                self.exit(i, p)?;
-                Ok(None)
-            }
-            Edit::Look { i, p, look } => {
-                self.look(i, p, look)?;
-                Ok(None)
-            }
-            Edit::Edge { i, p, w } => {
-                self.edge(i, p, w)?;
-                Ok(None)
-            }
-            Edit::Leave { i, b, e, w } => {
-                self.leave(i, b, e, w)?;
-                Ok(None)
-            }
-            Edit::Unedge { i, p, w } => {
-                self.unedge(i, p, w)?;
-                Ok(None)
-            }
-            Edit::Unleave { i, b, e, w } => {
-                self.unleave(i, b, e, w)?;
-                Ok(None)
-            }
+            Edit::Node { i, look } => self.node(i, look).map(Some),
+            Edit::Box { i, inner } => self.add_box(i, inner).map(Some),
+            Edit::Exit { i, p } => self.exit(i, p).map(|()| None),
+            Edit::Look { i, p, look } => self.look(i, p, look).map(|()| None),
+            Edit::Edge { i, p, w } => self.edge(i, p, w).map(|()| None),
+            Edit::Leave { i, b, e, w } => self.leave(i, b, e, w).map(|()| None),
+            Edit::Unedge { i, p, w } => self.unedge(i, p, w).map(|()| None),
+            Edit::Unleave { i, b, e, w } => self.unleave(i, b, e, w).map(|()| None),
         }
     }
 

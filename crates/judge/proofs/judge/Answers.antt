@@ -1,44 +1,43 @@
 -- What the searches find is the verdict, by the theorems about hops.
-use Rattle.std.proofs.Common.{◌≡◌, length, Some, Err, refl, arith, rules}
-use Rattle.std.proofs.lemmas.Bool.{both_ways}
-use Rattle.hierarchy.specs.declared.refusal.Refusal.TheVariants.{TooLarge, TooLittleMemory}
+use Rattle.std.proofs.Common.{◌≡◌, length, Some, Err, rules}
+use Rattle.hierarchy.specs.declared.refusal.Refusal.TheVariants.{TooLittleMemory}
 use Rattle.judge.specs.Verdicts.{judge_refusal}
-use Rattle.judge.proofs.Told.{fits_is}
-use Rattle.judge.proofs.Judging.{not_refused, reach_told, recur_told, guides_told}
+use Rattle.hierarchy.proofs.Told.{fits_is}
+use Rattle.judge.proofs.Judging.{not_refused, reach_told, recur_told}
 use Rattle.judge.proofs.Piles.{judged_as_pile}
 use Rattle.judge.proofs.judge.Goals as goal
 
-pub overflow_add-structures : goal.overflow_add-structures
-overflow_add-structures g c =
+pub returns-in_err-structures-clause-piles : goal.returns-in_err-structures-clause-piles
+returns-in_err-structures-clause-piles g c =
     let m = g.B.Hierarchy.meaning c.args.h.now in
-    let L = g.B.Hierarchy.lawful c.args.h.now in
-    let f = fits_is m _ _ c.in-Fits.ensures in
-    omega (arith, (L.sized f.0).1, f.1)
+    judged_as_pile m _ _ (search rules) (search rules)
 
-pub returns-in_default : goal.returns-in_default
-returns-in_default g c =
-    let m = g.B.Hierarchy.meaning c.args.h.now in
-    let refused : Some TooLarge ≡ judge_refusal m (length c.args.guide.now) = search rules in
-    record { refused = refused; unchanged = λ _. refl; reach = tt; recur = tt; piles = judged_as_pile m _ (Err TooLarge) refused tt; guides = tt }
-
-pub returns-then-guide-structures : goal.returns-then-guide-structures
-returns-then-guide-structures g c =
+pub returns-then-guide-structures-clause-piles : goal.returns-then-guide-structures-clause-piles
+returns-then-guide-structures-clause-piles g c =
     let m = g.B.Hierarchy.meaning c.args.h.now in
     let refused : Some TooLittleMemory ≡ judge_refusal m (length c.args.guide.now) = search rules in
-    record { refused = refused; unchanged = λ _. refl; reach = tt; recur = tt; piles = judged_as_pile m _ (Err TooLittleMemory) refused tt; guides = tt }
+    judged_as_pile m _ (Err TooLittleMemory) refused tt
 
-pub returns : goal.returns
-returns g c =
+pub returns-clause-reach : goal.returns-clause-reach
+returns-clause-reach g c =
     let m = g.B.Hierarchy.meaning c.args.h.now in
     let L = g.B.Hierarchy.lawful c.args.h.now in
-    let f = fits_is m _ _ c.in-Fits.ensures in
+    let f = fits_is m c.in_ok-structures.field-0.structures c.in_ok-structures.field-0.places (search rules) in
+    reach_told m L f.0 _ c.marked_any-reach.ensures
+
+pub returns-clause-recur : goal.returns-clause-recur
+returns-clause-recur g c =
+    let m = g.B.Hierarchy.meaning c.args.h.now in
+    let L = g.B.Hierarchy.lawful c.args.h.now in
+    let f = fits_is m c.in_ok-structures.field-0.structures c.in_ok-structures.field-0.places (search rules) in
+    let recur = recur_told m L f.0 _ _ c.find_ring-recur.ensures in
+    recur
+
+pub returns-clause-piles : goal.returns-clause-piles
+returns-clause-piles g c =
+    let m = g.B.Hierarchy.meaning c.args.h.now in
+    let L = g.B.Hierarchy.lawful c.args.h.now in
+    let f = fits_is m c.in_ok-structures.field-0.structures c.in_ok-structures.field-0.places (search rules) in
     let refused = not_refused m _ _ _ f.0 f.1 f.2 c.if-guide-structures.false in
     let recur = recur_told m L f.0 _ _ c.find_ring-recur.ensures in
-    record {
-      refused = refused;
-      unchanged = λ e. absurd (both_ways _ refl e);
-      reach = reach_told m L f.0 _ c.marked_any-reach.ensures;
-      recur = recur;
-      piles = judged_as_pile m _ _ refused recur;
-      guides = guides_told m _ _ c.find_ring-recur.ensures;
-    }
+    judged_as_pile m _ _ refused recur

@@ -31,7 +31,7 @@ impl Walk {
         ensures accepted { Accepts (B.Hierarchy.meaning h.now) guide.now self.old frames.old result }
         ensures home { ring_home self.new ≡ ring_home self.old }
     {
-        for i in 0..n {
+        for _ in 0..n {
             self.step(h, guide, frames)?;
         }
         Ok(())

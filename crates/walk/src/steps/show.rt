@@ -3,31 +3,23 @@
 ghost use Rattle.std.specs.Prelude.{◌≡◌, List, length};
 ghost use Rattle.hierarchy.specs.Flat.{last_node};
 ghost use Rattle.hierarchy.specs.Meaning.{Meaning};
-ghost use Rattle.walk.specs.Shown.{boxes_of, box_in, mark_of, structure_behind_lem, outer_frames, inner_told};
+ghost use Rattle.walk.specs.Shown.{boxes_of, box_in, mark_of, structure_behind_lem, outer_frames};
 ghost use Rattle.walk.specs.Steps.{state_shown};
 
 use crate::frame::Frame;
 use crate::steps::Walk;
 use hierarchy::{Hierarchy, Place};
 
-// The structure that a box names; 0 for what is no box.
-fn inner_of(place: Place) -> usize
-    ensures { result ≡ inner_told place }
-{
-    match place {
-        Place::Box(j) => j,
-        Place::Absent => 0,
-        Place::Node => 0,
-    }
-}
-
-// The structure behind the boxes at which the frames stand.
+// The structure behind the boxes at which the frames stand; behind a place that is no box it is structure 0.
 fn structure_behind<B: Hierarchy>(h: &B, frames: &[Frame]) -> usize
     ensures { result ≡ structure_behind_lem (B.Hierarchy.meaning h.now) 0 frames.now }
 {
     let mut structure = 0;
     for f in frames {
-        structure = inner_of(h.place(structure, f.place));
+        structure = match h.place(structure, f.place) {
+            Place::Box(inner) => inner,
+            Place::Node | Place::Absent => 0,
+        };
     }
     structure
 }
@@ -37,13 +29,8 @@ impl Walk {
     fn outer<'a>(&self, frames: &'a [Frame]) -> &'a [Frame]
         ensures { result.now ≡ outer_frames self.now frames.now }
     {
-        if self.fresh {
-            &frames[..0]
-        } else if self.stand.depth < frames.len() {
-            &frames[..self.stand.depth]
-        } else {
-            frames
-        }
+        let depth = self.stand.map_or(0, |stand| stand.depth);
+        frames.get(..depth).unwrap_or(frames)
     }
 
     // How many boxes the shown state has.
@@ -57,22 +44,16 @@ impl Walk {
     pub fn box_at(&self, frames: &[Frame], index: usize) -> Option<usize>
         ensures { (m : Meaning) → result ≡ box_in (boxes_of (state_shown m self.now frames.now)) index }
     {
-        let outer = self.outer(frames);
-        if index < outer.len() {
-            Some(outer[index].place)
-        } else {
-            None
-        }
+        self.outer(frames).get(index).map(|frame| frame.place)
     }
 
     // Its node.
     pub fn node<B: Hierarchy>(&self, h: &B) -> usize
         ensures { (fs : List Frame) → result ≡ last_node (state_shown (B.Hierarchy.meaning h.now) self.now fs) }
     {
-        if self.fresh {
-            h.entry(0)
-        } else {
-            self.stand.last.place
+        match self.stand {
+            Some(stand) => stand.last.place,
+            None => h.entry(0),
         }
     }
 

@@ -1,58 +1,40 @@
-use Rattle.std.proofs.Common.{◌≡◌, ℕ, length, None, sym, refl, ◌∙◌, subst}
-use borrow.Author.Tests.{both_ways}
-use Rattle.walk.specs.Steps.{lacking}
-use Rattle.walk.proofs.Sizes.{size_fits, size_large}
-use Rattle.report.proofs.Told.{short_refused, not_short, bytes_enough, nothing_lacks, judged, always_none, always_prints, always_ok}
+use Rattle.std.proofs.Common.{sym, ap, ◌∙◌, subst}
+use Rattle.hierarchy.specs.declared.Size.{Size}
+use Rattle.walk.proofs.Answered.{sized_lacks}
+use Rattle.report.specs.Report.{Report}
+use Rattle.report.proofs.Told.{head_room, head_only, states_room, with_states}
+use Rattle.report.proofs.judged.report_on.Goals.{in-Some+in_ok-push_states, in_default}
 use Rattle.report.proofs.judged.report_on.Goals as goal
 
-pub is_short-requires : goal.is_short-requires
-is_short-requires g c =
-    let s = size_fits (g.B.Hierarchy.meaning c.args.h.now) _ _ (g.B.Hierarchy.lawful c.args.h.now) c.in-Fits.ensures in
-    (s.few, s.narrow)
-
-pub returns-in_default : goal.returns-in_default
-returns-in_default g c =
+pub push_head-requires : goal.push_head-requires
+push_head-requires g c =
     let m = g.B.Hierarchy.meaning c.args.h.now in
-    absurd (both_ways m.large c.requires.fits (size_large m c.in_default.ensures))
+    let L = g.B.Hierarchy.lawful c.args.h.now in
+    let size = (sized_lacks m _ _ c.in_ok-structures.ensures).1 in
+    head_room m L c.requires.fits c.requires.few _ _ (ap (λ (s : Size). s.structures) size) (ap (λ (s : Size). s.places) size) c.new-text.ensures c.in_ok-reach.field-0.reach c.is_some.result
 
-pub returns-then-is_short : goal.returns-then-is_short
-returns-then-is_short g c =
+pub push_states-requires-clause-room : goal.push_states-requires-clause-room
+push_states-requires-clause-room g c =
     let m = g.B.Hierarchy.meaning c.args.h.now in
-    let s = size_fits m _ _ (g.B.Hierarchy.lawful c.args.h.now) c.in-Fits.ensures in
-    record { refused = short_refused m _ _ s.rows s.row _ _ _ c.if-is_short.ensures; unaltered = λ _. (refl, refl, refl); printed = tt }
+    let L = g.B.Hierarchy.lawful c.args.h.now in
+    let size = (sized_lacks m _ _ c.in_ok-structures.ensures).1 in
+    let told = c.in_ok-reach.ensures in
+    states_room m L c.requires.fits c.requires.few _ _ (ap (λ (s : Size). s.structures) size) (ap (λ (s : Size). s.places) size) c.new-text.ensures c.in_ok-reach.field-0 told.reach told.recur c.is_some.result c.is_some.ensures c.push_head.ensures
+    c.judge.new.guide told.guides c.in-Some.found c.in-Some.is
 
-pub returns-in_err-verdict : goal.returns-in_err-verdict
-returns-in_err-verdict g c =
+pub returns-clause-printed : goal.returns-clause-printed
+returns-clause-printed g c =
     let m = g.B.Hierarchy.meaning c.args.h.now in
-    let s = size_fits m _ _ (g.B.Hierarchy.lawful c.args.h.now) c.in-Fits.ensures in
-    absurd (judged m _ _ s.rows s.row (length c.args.guide.now) (length c.args.frames.now) (length c.args.output.now) c.in_err-verdict.field-0.0 c.requires.fits c.if-is_short.ensures c.in_err-verdict.ensures.refused)
-
-pub write_verdict-requires : goal.write_verdict-requires
-write_verdict-requires g c =
-    let m = g.B.Hierarchy.meaning c.args.h.now in
-    let s = size_fits m _ _ (g.B.Hierarchy.lawful c.args.h.now) c.in-Fits.ensures in
-    let j = c.in_ok-verdict.ensures in
-    record {
-      fits = c.requires.fits;
-      few = c.requires.few;
-      structures = s.rows;
-      places = s.row;
-      memory = subst (λ (n : ℕ). lacking m n (length c.args.frames.now) ≡ None) (sym c.judge.auto.guide) (nothing_lacks m _ _ s.rows s.row (length c.args.guide.now) (length c.args.frames.now) (length c.args.output.now) c.requires.fits c.if-is_short.ensures);
-      room = bytes_enough m _ _ s.rows s.row (length c.args.guide.now) (length c.args.frames.now) (length c.args.output.now) c.if-is_short.ensures;
-      reach = j.reach;
-      recur = j.recur;
-      guides = j.guides;
-    }
-
-pub returns : goal.returns
-returns g c =
-    let m = g.B.Hierarchy.meaning c.args.h.now in
-    let s = size_fits m _ _ (g.B.Hierarchy.lawful c.args.h.now) c.in-Fits.ensures in
-    let r = c.write_verdict.result in
-    let old = c.args.output.now in
-    let new = c.write_verdict.new.output in
-    record {
-      refused = always_none m old new r c.write_verdict.ensures.printed ∙ not_short m _ _ s.rows s.row (length c.args.guide.now) (length c.args.frames.now) (length old) c.if-is_short.ensures;
-      unaltered = λ e. absurd (always_ok m old new r c.write_verdict.ensures.printed e);
-      printed = always_prints m old new r c.write_verdict.ensures.printed;
-    }
+    let L = g.B.Hierarchy.lawful c.args.h.now in
+    let size = (sized_lacks m _ _ c.in_ok-structures.ensures).1 in
+    let told = c.in_ok-reach.ensures in
+    let v = c.in_ok-reach.field-0 in
+    let text : Report m c.match-recur.text.bytes = elim c.match-recur.branch [
+      | in-Some+in_ok-push_states w ↦
+          with_states m L c.requires.fits c.requires.few _ _ (ap (λ (s : Size). s.structures) size) (ap (λ (s : Size). s.places) size) c.new-text.ensures v told.reach told.recur c.is_some.result c.is_some.ensures c.push_head.ensures
+          c.judge.new.guide told.guides w.in-Some.found w.in-Some.is (ap (λ t. t.bytes) w.text-is ∙ w.in_ok-push_states.ensures)
+      | in_default w ↦
+          head_only m L c.requires.fits c.requires.few _ _ (ap (λ (s : Size). s.structures) size) (ap (λ (s : Size). s.places) size) c.new-text.ensures v told.reach told.recur c.is_some.result c.is_some.ensures c.push_head.ensures
+          w.in_default.is (ap (λ t. t.bytes) w.text-is)
+    ] in
+    record { within = c.put_front.ensures.within; text = subst (Report m) (sym c.put_front.ensures.front) text; behind = c.put_front.ensures.behind }

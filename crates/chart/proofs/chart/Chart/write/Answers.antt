@@ -36,7 +36,7 @@ invariant_of-self c =
       counts = k;
       structures = length_sheet n t' (omega arith);
       places = few_at n t' (omega arith) k;
-      longest = omega (arith, e, c.max-most.ensures, c.size.ensures.size, c.args.self.now.longest);
+      longest = omega (arith, e, c.max.ensures, c.size.ensures.size, c.args.self.now.longest);
       sound = subst (λ (s : Sheet). ∥ Sound s ∥₁) (sym (sheet_set n t i row)) c.requires.sound;
     }
 

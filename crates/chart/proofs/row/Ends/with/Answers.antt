@@ -1,8 +1,11 @@
-use Rattle.std.proofs.Common.{sym, ◌∙◌}
-use Rattle.chart.proofs.Bits.{with_bit, other_flag}
+use Rattle.std.proofs.Common.{◌^◌, ◌<◌, rules}
+use Rattle.chart.proofs.Bits.{with_bit, without_bit}
 use Rattle.chart.proofs.row.Ends.with.Goals as goal
 
-pub returns : goal.returns
-returns c =
-    with_bit c.args.self.bits c.args.y c.args.there c.requires
-    (sym c.has.ensures ∙ other_flag c.has.result c.args.there c.if-has-there.false)
+pub returns-then-there : goal.returns-then-there
+returns-then-there c = rw c.if-there.true (with_bit c.args.self.bits c.args.y c.requires)
+
+pub returns-else-there : goal.returns-else-there
+returns-else-there c =
+    let h : c.args.self.bits < 2 ^ 16 = search rules in
+    rw c.if-there.false (without_bit c.args.self.bits c.args.y c.requires h)

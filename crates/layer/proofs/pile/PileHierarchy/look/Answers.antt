@@ -1,15 +1,9 @@
 -- What is too large has nothing.
-use Rattle.layer.specs.Piles.{pile, pile_lawful}
-use Rattle.layer.proofs.Layers.{large_is}
-use Rattle.layer.proofs.Piles.{large_letter, large_mark}
+use Rattle.layer.specs.Piles.{pile_lawful}
+use Rattle.layer.proofs.Large.{large_look}
 use Rattle.layer.proofs.pile.PileHierarchy.look.Goals as goal
 
-pub returns-in-TooLarge : goal.returns-in-TooLarge
-returns-in-TooLarge g c =
+pub returns-in-None : goal.returns-in-None
+returns-in-None g c =
     let x = c.args.self.now in
-    let m = pile x.monitors.now (g.B.Hierarchy.meaning x.base.now) in
-    let law = pile_lawful x.monitors.now (g.B.Hierarchy.lawful x.base.now) in
-    let large = large_is m c.in-TooLarge.ensures in
-    let letter = large_letter m law large c.args.i c.args.p in
-    let mark = large_mark m law large c.args.i c.args.p in
-    cc
+    large_look _ (pile_lawful x.monitors.now (g.B.Hierarchy.lawful x.base.now)) c.in-None.ensures _ c.default.ensures.0 c.default.ensures.1 c.args.i c.args.p

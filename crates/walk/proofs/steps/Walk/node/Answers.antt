@@ -1,9 +1,8 @@
-use Rattle.std.proofs.Common.{cond, sym, ap, ◌∙◌}
-use Rattle.walk.proofs.Showing.{shown_node}
+use Rattle.std.proofs.Common.{sym, ap, ◌∙◌}
+use Rattle.walk.proofs.Showing.{shown_node, node_at}
 use Rattle.walk.proofs.steps.Walk.node.Goals as goal
 
-pub returns-else-self : goal.returns-else-self
-returns-else-self g c fs =
+pub returns-in-Some : goal.returns-in-Some
+returns-in-Some g c fs =
     let m = g.B.Hierarchy.meaning c.args.h.now in
-    let w = c.args.self.now in
-    sym (shown_node m w fs ∙ ap (λ b. cond b (m.entry 0) w.stand.last.place) c.if-self.false)
+    sym (shown_node m c.args.self.now fs ∙ ap (node_at m) c.in-Some.is)

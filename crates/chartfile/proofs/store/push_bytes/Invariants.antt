@@ -1,5 +1,0 @@
-use Rattle.std.proofs.Common.{◌≡◌, ◌++◌, take, vec_items}
-use Rattle.chartfile.proofs.store.push_bytes.Given as goal
-
-abbrev pub invariant-loop-field : goal.invariant-loop-field
-invariant-loop-field l = vec_items l.out ≡ vec_items l.initial.out ++ take l.field-index l.fields

@@ -1,8 +1,0 @@
--- What the loop keeps.
-use Rattle.guide.specs.Layout.{look}
-use Rattle.judge.specs.Seeds.{SownBelow, marked_site}
-use Rattle.judge.proofs.rows.seed_all.Given as goal
-
-abbrev pub invariant-loop-v : goal.invariant-loop-v
-invariant-loop-v g l =
-    SownBelow (g.B.Hierarchy.meaning l.h) (marked_site l.places l.structure) l.v (look l.initial.guide l.places) (look l.guide l.places)
