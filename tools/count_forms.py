@@ -103,7 +103,8 @@ forms = [
     ("1a own enums (those of the shape of Option or Result are meant)", lines(r"^(?:pub(?:\(crate\))? )?enum \w+")),
     ("1b refusals answered as an Option", lines(r"-> Option<Refusal>")),
     ("1c Ok, Err, Some or None passed on by hand",
-     lines(r"Ok\((\w+)\) => Ok\(\1\)|Ok\(_\) => Ok\(\(\)\)|Err\((\w+)\) => Err\(\2\)|(?<!return )None => None|"
+     lines(r"Ok\((\w+)\) => Ok\(\1\)|Ok\(_\) => Ok\(\(\)\)|Ok\(\(\)\) => Ok\(\(\)\)|Err\((\w+)\) => Err\(\2\)|(?<!return )None => None|"
+           r"None => Ok\(None\)|Ok\(_\) => None|None => (?:false|0|Place::Absent|Look::default\(\)),|TooLarge => (?:false|Place::Absent)|"
            r"if let Some\(refusal\)|else \{\s*return None;\s*\}|=> return None|Err\(refusal\) => Err\(")),
     ("1d fields that are flags", lines(r"^ +(?:pub )?\w+: bool,")),
     ("1e numbers for kinds or refusals",

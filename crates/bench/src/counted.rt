@@ -22,15 +22,15 @@ impl<'a, B: Hierarchy> Counted<'a, B> {
         }
     }
 
+    // One question more.
+    fn count(&self) {
+        self.asked.set(self.asked.get().saturating_add(1));
+    }
+
     // How many questions were asked. No contract says it: a clause knows nothing of what a cell holds.
     pub fn asked(&self) -> u64 {
         self.asked.get()
     }
-}
-
-// One question more.
-fn count(asked: &Cell<u64>) {
-    asked.set(asked.get().saturating_add(1));
 }
 
 impl<'a, B: Hierarchy> Hierarchy for Counted<'a, B> {
@@ -39,37 +39,37 @@ impl<'a, B: Hierarchy> Hierarchy for Counted<'a, B> {
     ghost lawful = { λ x. B.Hierarchy.lawful x.below.now };
 
     fn size(&self) -> Option<Size> {
-        count(&self.asked);
+        self.count();
         self.below.size()
     }
 
     fn place(&self, i: usize, p: usize) -> Place {
-        count(&self.asked);
+        self.count();
         self.below.place(i, p)
     }
 
     fn entry(&self, i: usize) -> usize {
-        count(&self.asked);
+        self.count();
         self.below.entry(i)
     }
 
     fn is_exit(&self, i: usize, p: usize) -> bool {
-        count(&self.asked);
+        self.count();
         self.below.is_exit(i, p)
     }
 
     fn look(&self, i: usize, p: usize) -> Look {
-        count(&self.asked);
+        self.count();
         self.below.look(i, p)
     }
 
     fn has_edge(&self, i: usize, p: usize, w: usize) -> bool {
-        count(&self.asked);
+        self.count();
         self.below.has_edge(i, p, w)
     }
 
     fn has_leave(&self, i: usize, b: usize, e: usize, w: usize) -> bool {
-        count(&self.asked);
+        self.count();
         self.below.has_leave(i, b, e, w)
     }
 }

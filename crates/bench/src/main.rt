@@ -24,15 +24,13 @@ fn measure_exits(rt: &HostRuntime, exits: usize, leaves: usize) -> io::Result<()
 }
 
 fn measure_wheels(rt: &HostRuntime) -> io::Result<()> {
-    measure_wheel(rt, &[20; 1])?;
-    measure_wheel(rt, &[20; 2])?;
-    measure_wheel(rt, &[20; 4])?;
-    measure_wheel(rt, &[20; 8])?;
-    measure_wheel(rt, &[20; 16])?;
-    measure_wheel(rt, &[10; 3])?;
-    measure_wheel(rt, &[40; 3])?;
-    measure_wheel(rt, &[80; 3])?;
-    measure_wheel(rt, &[160; 3])
+    for levels in [1, 2, 4, 8, 16] {
+        measure_wheel(rt, &[20; 16][..levels])?;
+    }
+    for items in [10, 40, 80, 160] {
+        measure_wheel(rt, &[items; 3])?;
+    }
+    Ok(())
 }
 
 fn main(rt: HostRuntime) -> io::Result<()> {

@@ -27,6 +27,7 @@ fn tell_asked(rt: &HostRuntime, asked: u64, size: Size) -> io::Result<()> {
     println!(rt; "size {structures} {places}, questions {asked}, {share} hundredths of S * P * P")
 }
 
+// A row has guide records for each structure and one more, which may not overflow for any size that is told.
 fn measure_sized<B: Hierarchy>(rt: &HostRuntime, h: &B, size: Size) -> io::Result<()> {
     let records = size
         .structures

@@ -102,7 +102,7 @@ impl Row {
         self.used
     }
 
-    // What stands at a place, if anything does.
+    // What stands at a place, if anything does: by a test, since a row promises nothing of `used`.
     pub(crate) fn spot(&self, p: usize) -> Option<Spot>
         ensures { result ≡ slice_get (structure_of self.now).places p }
     {

@@ -8,16 +8,21 @@ use std::test::Fail;
 
 const FAR: usize = usize::MAX;
 
-// 0 for an accepted edit, the refusal's number for another.
+// 0 for an accepted edit, which is no refusal's number, and the refusal's number for another: so a table of numbers reads
+// as the lists of the documents do.
 fn answer(chart: &mut Chart, edit: Edit) -> u8 {
-    match chart.apply(edit) {
-        Ok(_) => 0,
-        Err(refusal) => refusal.number(),
-    }
+    chart
+        .apply(edit)
+        .map_or_else(|refusal| refusal.number(), |_| 0)
 }
 
+// Two crates of tests have this function: a crate for it would be no plainer.
 fn size(structures: usize, places: usize) -> Option<Size> {
     Some(Size { structures, places })
+}
+
+fn look(i: usize, p: usize, look: u8) -> Edit {
+    Edit::Look { i, p, look }
 }
 
 fn leave(i: usize, b: usize, e: usize, w: usize) -> Edit {
@@ -40,40 +45,12 @@ fn one_structure_refuses(rt: HostRuntime) {
         (2, Edit::Node { i: 0, look: 0x40 }),
         (20, Edit::Node { i: 1, look: 0x8f }),
         (20, Edit::Node { i: FAR, look: 0 }),
-        (
-            2,
-            Edit::Look {
-                i: 9,
-                p: 9,
-                look: 0x20,
-            },
-        ),
-        (
-            20,
-            Edit::Look {
-                i: 9,
-                p: 0,
-                look: 0,
-            },
-        ),
-        (
-            21,
-            Edit::Look {
-                i: 0,
-                p: 1,
-                look: 0,
-            },
-        ),
+        (2, look(9, 9, 0x20)),
+        (20, look(9, 0, 0)),
+        (21, look(0, 1, 0)),
         (20, Edit::Exit { i: 1, p: 0 }),
         (21, Edit::Exit { i: 0, p: FAR }),
-        (
-            0,
-            Edit::Look {
-                i: 0,
-                p: 0,
-                look: 0x8f,
-            },
-        ),
+        (0, look(0, 0, 0x8f)),
         (0, Edit::Exit { i: 0, p: 0 }),
         (26, Edit::Exit { i: 0, p: 0 }),
     ];
@@ -109,14 +86,7 @@ fn edges_refuse(rt: HostRuntime) -> Result<(), Fail> {
         (27, Edit::Unedge { i: 0, p: 0, w: 2 }),
         (22, Edit::Unedge { i: 0, p: 1, w: 1 }),
         (22, Edit::Exit { i: 0, p: 1 }),
-        (
-            22,
-            Edit::Look {
-                i: 0,
-                p: 1,
-                look: 0,
-            },
-        ),
+        (22, look(0, 1, 0)),
     ];
     let mut chart = two_structures()?;
     for (number, edit) in script {

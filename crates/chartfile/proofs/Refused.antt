@@ -1,4 +1,5 @@
 -- A refused call alters nothing, whichever record it is.
+-- No contract leans on it: it is the law of records beside what `perform` promises of the values.
 -- Assumes nothing.
 use Rattle.std.proofs.Common.{◌≡◌, ℕ, true, false, cond, is_ok, Some, None, Err, Option, Result, refl, ap, ap₂, arith}
 use Rattle.hierarchy.specs.declared.refusal.Refusal.{Refusal}

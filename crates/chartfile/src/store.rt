@@ -28,10 +28,10 @@ impl From<TryFromIntError> for Unstored {
     }
 }
 
-impl From<AllocFailed<u8>> for Unstored {
+impl<T: Drop> From<AllocFailed<T>> for Unstored {
     ghost from_gives = { λ _ e. e ≡ NoMemory };
 
-    fn from(_error: AllocFailed<u8>) -> Unstored {
+    fn from(_error: AllocFailed<T>) -> Unstored {
         Unstored::NoMemory
     }
 }

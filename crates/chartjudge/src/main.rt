@@ -4,7 +4,7 @@
 
 use chartfile::LONGEST;
 use guide::GuideRecord;
-use report::report_file;
+use report::{OUTPUT, report_file};
 use std::io;
 use std::io::{Read, Write};
 use walk::Frame;
@@ -12,8 +12,6 @@ use walk::Frame;
 const RECORDS: usize = 4096;
 
 const FRAMES: usize = 256;
-
-const OUTPUT: usize = 2048;
 
 fn main(rt: HostRuntime) -> io::Result<()> {
     let mut input = Vec::new(rt.alloc());

@@ -17,7 +17,8 @@ use hierarchy::{Hierarchy, Refusal};
 use judge::{Verdict, judge};
 use walk::{Frame, Walk, walk_on, walkable};
 
-// What a judgment says, with a walk where a marked state recurs.
+// What a judgment says, with a walk where a marked state recurs. A type of its own: a verdict with a walk in the place of
+// the found mark, which is spent.
 #[derive(Drop)]
 pub struct Judgment {
     // whether a marked state is reachable
@@ -28,6 +29,7 @@ pub struct Judgment {
 
 // Judges the hierarchy, and where a marked state recurs, starts a walk and makes `n` steps.
 // It needs (S + 1) × P guide records and S frames, also where there is no walk to make.
+// Guide and frames are lent apart: a judge writes the one, and a walk reads it while it writes the other.
 pub fn judge_and_walk<B: Hierarchy>(
     h: &B,
     guide: &mut [GuideRecord],

@@ -36,7 +36,8 @@ impl Entry {
 pub struct GuideRecord {
     pub plain: Entry,
     pub marked: Entry,
-    // at place 0 only: whether and how structure i is reached from structure 0, and which of its places to go to
+    // at place 0 only: whether and how structure i is reached from structure 0, and which of its places to go to;
+    // these are the structure's, and lie in its place 0, so that a guide has no records but the places'
     pub up: Entry,
     pub aim: usize,
 }
@@ -71,6 +72,7 @@ pub enum Lane {
 }
 
 // The record at the place of a row; past the end of memory a blank one.
+// The lent memory is one slice, and says nowhere how long its rows are: so `places` goes beside it.
 fn record_at(guide: &[GuideRecord], places: usize, row: usize, place: usize) -> GuideRecord
     ensures { result ≡ slice_index_or guide.now (row * places + place) blank_record_lem }
 {
@@ -81,6 +83,7 @@ fn record_at(guide: &[GuideRecord], places: usize, row: usize, place: usize) -> 
 }
 
 // What the trees hold of a place, where each row has so many places; past the end of a row or of memory a blank entry.
+#[tactic(auto, unfolding(crate::specs::Layout::look))]
 pub fn entry_at(guide: &[GuideRecord], places: usize, lane: Lane, row: usize, place: usize) -> Entry
     ensures { result ≡ look guide.now places lane row place }
 {
@@ -92,6 +95,7 @@ pub fn entry_at(guide: &[GuideRecord], places: usize, lane: Lane, row: usize, pl
 }
 
 // The place of a structure to go to.
+#[tactic(auto, unfolding(crate::specs::Layout::aim_of_lem))]
 pub fn aim_at(guide: &[GuideRecord], places: usize, structure: usize) -> usize
     ensures { result ≡ aim_of_lem guide.now places structure }
 {

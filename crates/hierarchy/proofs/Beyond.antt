@@ -1,5 +1,6 @@
 -- Beyond the size of a lawful hierarchy every answer is no.
-use Rattle.std.proofs.Common.{◌≡◌, ℕ, ◌<◌, ◌≤◌, Bool, true, false, ◌≢◌, ◌⊎◌, refl, ⊎_elim, arith}
+use Rattle.std.proofs.Common.{◌≡◌, ℕ, ◌<◌, ◌≤◌, true, false, ◌≢◌, ◌⊎◌, ⊎_elim, arith}
+use Rattle.std.proofs.lemmas.Bool.{false_from_ne_true}
 use Rattle.hierarchy.specs.Meaning.{Meaning, Kind, absent, node, box, Lawful}
 
 pub node_present : (k : Kind) → k ≡ node → k ≢ absent
@@ -7,10 +8,6 @@ node_present k e h = let z : ◌≡◌ {A = ℕ} 0 1 = cc in omega arith
 
 pub box_present : (k : Kind) (j : ℕ) → k ≡ box j → k ≢ absent
 box_present k j e h = let z : ◌≡◌ {A = ℕ} 0 1 = cc in omega arith
-
-never : (b : Bool) → (b ≡ true → ⊥) → b ≡ false
-never true h = absurd (h refl)
-never false h = refl
 
 -- what is there stands within the size
 pub record EdgeWithin (m : Meaning) (i p w : ℕ) : Type 0 where
@@ -37,10 +34,10 @@ leave_within {m} l i b e w h =
     record { structure = f.0; from = f.1; by = g.1; to = (l.within i w (l.leave_to i b e w h)).1 }
 
 pub no_edge : {m : Meaning} → Lawful m → (i p w : ℕ) → (m.structures ≤ i) ⊎ ((m.places ≤ p) ⊎ (m.places ≤ w)) → m.edge i p w ≡ false
-no_edge {m} l i p w h = never (m.edge i p w) (λ e. let k = edge_within l i p w e in
+no_edge {m} l i p w h = false_from_ne_true (m.edge i p w) (λ e. let k = edge_within l i p w e in
     ⊎_elim (λ a. omega (arith, k.structure)) (λ a. ⊎_elim (λ b. omega (arith, k.from)) (λ b. omega (arith, k.to)) a) h)
 
 pub no_leave : {m : Meaning} → Lawful m → (i b e w : ℕ) → (m.structures ≤ i) ⊎ ((m.places ≤ b) ⊎ ((m.places ≤ e) ⊎ (m.places ≤ w))) → m.leave i b e w ≡ false
-no_leave {m} l i b e w h = never (m.leave i b e w) (λ t. let k = leave_within l i b e w t in
+no_leave {m} l i b e w h = false_from_ne_true (m.leave i b e w) (λ t. let k = leave_within l i b e w t in
     ⊎_elim (λ a. omega (arith, k.structure))
     (λ a. ⊎_elim (λ c. omega (arith, k.from)) (λ c. ⊎_elim (λ d. omega (arith, k.by)) (λ d. omega (arith, k.to)) c) a) h)

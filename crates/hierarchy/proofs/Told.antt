@@ -4,19 +4,9 @@ use Rattle.std.proofs.Common.{◌≡◌, ℕ, ◌≤◌, Bool, true, false, cond
 use Rattle.hierarchy.specs.Meaning.{Meaning, Kind, absent, node, box, Lawful}
 use Rattle.hierarchy.specs.Answers.{place_told, size_told, fits}
 use Rattle.hierarchy.specs.declared.Size.{Size}
-use Rattle.hierarchy.specs.declared.Place.TheVariants.{Absent, Node, Box}
+use Rattle.hierarchy.specs.declared.Place.TheVariants.{Box}
 
 -- ---- a place
-pub told_absent : (p : Kind) → Absent ≡ place_told p → p ≡ absent
-told_absent absent e = refl
-told_absent node e = absurd (let z : ◌≡◌ {A = ℕ} 0 1 = cc in omega arith)
-told_absent (box j) e = absurd (let z : ◌≡◌ {A = ℕ} 0 1 = cc in omega arith)
-
-pub told_node : (p : Kind) → Node ≡ place_told p → p ≡ node
-told_node absent e = absurd (let z : ◌≡◌ {A = ℕ} 0 1 = cc in omega arith)
-told_node node e = refl
-told_node (box j) e = absurd (let z : ◌≡◌ {A = ℕ} 0 1 = cc in omega arith)
-
 pub told_box : (p : Kind) (j : ℕ) → Box j ≡ place_told p → p ≡ box j
 told_box absent j e = absurd (let z : ◌≡◌ {A = ℕ} 0 1 = cc in omega arith)
 told_box node j e = absurd (let z : ◌≡◌ {A = ℕ} 0 1 = cc in omega arith)

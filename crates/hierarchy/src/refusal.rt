@@ -1,8 +1,7 @@
 // Why a call is refused. Each refusal has a number, by which programs and files tell it.
 // A refused call alters nothing.
 ghost use Rattle.std.specs.Prelude.{◌≡◌, Some};
-ghost use Rattle.hierarchy.specs.Refusals.{refusal_number};
-ghost use Rattle.hierarchy.specs.Refusals.{refusal_text};
+ghost use Rattle.hierarchy.specs.Refusals.{refusal_number, refusal_text};
 
 use std::fmt;
 

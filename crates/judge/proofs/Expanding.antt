@@ -3,7 +3,7 @@ use Rattle.std.proofs.lemmas.Grind.{common_steps}
 use Rattle.std.proofs.Common.{◌≡◌, ℕ, ◌+◌, ◌<◌, ◌≤◌, Bool, true, false, ◌⊎◌, sym, ap, ◌∙◌, subst, inl, inr, arith}
 use Rattle.std.proofs.lemmas.Bool.{cases_eq, both_ways, and_parts, and_from}
 use Rattle.hierarchy.specs.Meaning.{Meaning, box, Lawful}
-use Rattle.theory.proofs.Paths.{same_box, node_not_box, node_not_absent}
+use Rattle.theory.proofs.Paths.{same_box, node_not_box}
 use Rattle.guide.specs.declared.Entry.{Entry}
 use Rattle.guide.specs.Layout.{Table}
 use Rattle.judge.specs.declared.spread.Along.{Along}
@@ -12,6 +12,7 @@ use Rattle.judge.specs.Tables.{Others}
 use Rattle.judge.specs.Spread.{Apart, here, Adds}
 use Rattle.judge.specs.Follows.{entry_of, met, passes, Follows, along_edge, along_exit, Come, Expanding, Expands}
 use Rattle.judge.proofs.Grow.{others_trans, adds_each, adds_all}
+use Rattle.hierarchy.proofs.Beyond.{node_present}
 
 entry_reached : (a : Along) (v e d : ℕ) → (entry_of a v e d).reached ≡ true
 entry_reached a v e d = grind (arith, common_steps)
@@ -83,4 +84,4 @@ module _ (m : Meaning) (L : Lawful m) (s : Site) (a : Along) (v d : ℕ) where
       where
         low : (e w : ℕ) → Follows m T a s.structure v e w → e < n
         low e w (along_edge c x) = absurd (not_edge x)
-        low e w (along_exit {j = i} p r l) = omega (arith, (L.within i e (node_not_absent (L.exit_node i e (and_parts (m.exits i e) (met m T a i e) r).0))).1)
+        low e w (along_exit {j = i} p r l) = omega (arith, (L.within i e (node_present _ (L.exit_node i e (and_parts (m.exits i e) (met m T a i e) r).0))).1)

@@ -4,7 +4,7 @@ use Rattle.std.proofs.Common.{◌≡◌, ℕ, ◌+◌, ◌<◌, ◌≤◌, Bool,
 use Rattle.std.proofs.lemmas.Bool.{and_parts}
 use Rattle.hierarchy.specs.Meaning.{Meaning, box, Lawful}
 use Rattle.theory.specs.Hops.{Pass, over, through}
-use Rattle.theory.proofs.Paths.{same_box, node_not_box, node_not_absent}
+use Rattle.theory.proofs.Paths.{same_box, node_not_box}
 use Rattle.theory.proofs.Reaching.{pass→hops, hops→pass}
 use Rattle.guide.specs.declared.Lane.TheVariants.{Plain}
 use Rattle.guide.specs.Layout.{Table}
@@ -12,6 +12,7 @@ use Rattle.judge.specs.declared.table.Site.{Site}
 use Rattle.judge.specs.Spread.{here}
 use Rattle.judge.specs.Rows.{From}
 use Rattle.judge.specs.Nested.{Fresh, FreshHop}
+use Rattle.hierarchy.proofs.Beyond.{node_present}
 
 -- from a box, by the exits below n
 module _ (m : Meaning) (L : Lawful m) (s : Site) (v j : ℕ) (b : m.place s.structure v ≡ box j) (T : Table) (B : From m (s.structure + 1) T) where
@@ -30,4 +31,4 @@ module _ (m : Meaning) (L : Lawful m) (s : Site) (v j : ℕ) (b : m.place s.stru
       let q = L.inner s.structure v j b in
       let x : m.exits j e ≡ true = subst (λ k. m.exits k e ≡ true) (same_box c b) p.exits in
       let p' = subst (λ k. Pass m k e) (same_box c b) p in
-      X e w (omega (arith, (L.within j e (node_not_absent (L.exit_node j e x))).1)) x (((B j (omega (arith, q.0)) q.1).right e).1 (pass→hops L q.1 p')) l
+      X e w (omega (arith, (L.within j e (node_present _ (L.exit_node j e x))).1)) x (((B j (omega (arith, q.0)) q.1).right e).1 (pass→hops L q.1 p')) l

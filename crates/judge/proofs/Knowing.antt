@@ -7,7 +7,6 @@ use Rattle.std.proofs.lemmas.Bool.{cases_eq, both_ways}
 use Rattle.hierarchy.specs.Meaning.{Meaning, box, Lawful}
 use Rattle.theory.specs.Hops.{Reached, top, MarkedNode}
 use Rattle.theory.specs.Hops.{by_box as through_box}
-use Rattle.theory.proofs.Paths.{box_not_absent, node_not_absent}
 use Rattle.guide.specs.declared.Entry.{Entry}
 use Rattle.guide.specs.declared.Lane.TheVariants.{Plain, Marked, Up}
 use Rattle.guide.specs.Layout.{Table}
@@ -16,6 +15,7 @@ use Rattle.judge.specs.Spread.{child}
 use Rattle.judge.specs.Rows.{Behind}
 use Rattle.judge.specs.Known.{known, OnlyUp, NamedBy, Shown, Traced, outermost, by_box, Knows, MarkIn, Decides}
 use Rattle.judge.proofs.Stays.{both_same}
+use Rattle.hierarchy.proofs.Beyond.{node_present, box_present}
 
 pub plain_not_up : Plain ≡ Up → ⊥
 plain_not_up e = let z : ◌≡◌ {A = ℕ} 0 1 = cc in omega arith
@@ -28,10 +28,6 @@ only_put P c r u n = P.others c r u (λ z. n z.0)
 
 pub behind_up : (m : Meaning) (i : ℕ) (T T' : Table) → OnlyUp T T' → Behind m i T → Behind m i T'
 behind_up m i T T' f B j h k = both_same m T T' j (fun_ext (λ u. f Plain j u plain_not_up)) (fun_ext (λ u. f Marked j u marked_not_up)) (B j h k)
-
--- what is known stays so
-kept : (T T' : Table) {X : Type 0} (j : ℕ) → (T' Up j 0 ≡ T Up j 0) ⊎ ((known T j ≡ false) × X) → known T j ≡ true → T' Up j 0 ≡ T Up j 0
-kept T T' j h1 h2 = grind (arith, common_steps)
 
 -- ---- all structures
 traced_kept : (m : Meaning) (T T' : Table) (j : ℕ) → OnlyUp T T' → T' Up j 0 ≡ T Up j 0 → ((k : ℕ) → known T k ≡ true → known T' k ≡ true) → Traced m T j → Traced m T' j
@@ -69,7 +65,7 @@ module _ (m : Meaning) (L : Lawful m) (P : ℕ) (e : P ≡ m.places) where
       below i b j (inl q) l k p x =
           let x' : m.place n b ≡ box j = subst (λ z. m.place z b ≡ box j) q x in
           let p' : (T Plain n b).reached ≡ true = subst (λ z. (T Plain z b).reached ≡ true) q (sym (ap (λ y. y.reached) (X.rest Plain i b plain_not_up)) ∙ p) in
-          X.below b j (omega (arith, (L.within n b (box_not_absent x')).1)) p' x'
+          X.below b j (omega (arith, (L.within n b (box_present _ _ x')).1)) p' x'
       below i b j (inr q) l k p x = keeps j (K.below i b j (omega arith) k (sym (ap (λ y. y.reached) (X.rest Plain i b plain_not_up)) ∙ p) x)
 
   pub knows_start : {T T' : Table} {x : Entry} → ((j : ℕ) → j < m.structures → known T j ≡ false) → x ≡ child 0 0 0 → Put T T' Up 0 0 x → Knows m 0 T'
@@ -109,7 +105,7 @@ module _ (m : Meaning) (L : Lawful m) (T : Table) (B : Behind m 0 T) (K : Knows 
       f x.structure a.0 a.1 (record { u = x.place; come = x.come; mark = x.marked })
 
 pub mark_below : (m : Meaning) → Lawful m → (i u : ℕ) → m.mark i u ≡ true → u < m.places
-mark_below m L i u k = (L.within i u (node_not_absent (L.mark_node i u k))).1
+mark_below m L i u k = (L.within i u (node_present _ (L.mark_node i u k))).1
 
 pub yes_is : (X : Type 0) → X → Decides true X
 yes_is X a = record { sure = λ _. a; never = λ f. absurd (both_ways true f refl) }

@@ -1,6 +1,6 @@
 -- The table that a guide is, read and written. Assumes nothing.
 use Rattle.std.proofs.lemmas.Grind.{common_steps}
-use Rattle.std.proofs.Common.{◌≡◌, ℕ, ◌+◌, ◌*◌, ◌/◌, ◌%◌, ◌<◌, ◌≤◌, true, cond, ltb, ◌≢◌, ◌⊎◌, List, length, get_or, set, sym, ap, ◌∙◌, inl, inr, arith, get_or-set_other, get_or-set_same}
+use Rattle.std.proofs.Common.{◌≡◌, ℕ, ◌+◌, ◌*◌, ◌/◌, ◌%◌, ◌<◌, ◌≤◌, true, cond, ltb, ◌≢◌, ◌⊎◌, List, length, get_or, set, sym, ap, subst, ◌∙◌, inl, inr, arith, get_or-set_other, get_or-set_same}
 use mathlib.Core.Path.{fun_ext}
 use Rattle.std.proofs.lemmas.Bool.{lt-ltb, cases_eq, le-ltb, cases_lt, both_ways}
 use Rattle.std.proofs.lemmas.Nat.{div-mul-add, mod-mul-add, mul-le}
@@ -58,8 +58,8 @@ module _ (g : List GuideRecord) (P : ℕ) (c : Lane) (r u n : ℕ) (l : Entry) (
   pub puts : Put (look g P) (look g' P) c r u l
   puts = record { here = put_here; rest = put_rest; others = put_others }
 
-  pub puts_set : Put (look g P) (look (set g n (with_lane_lem (get_or g n blank_record_lem) c l)) P) c r u l
-  puts_set = puts
+  pub puts_set : (d : Lane) → c ≡ d → Put (look g P) (look (set g n (with_lane_lem (get_or g n blank_record_lem) d l)) P) c r u l
+  puts_set d q = subst (λ t. Put (look g P) (look (set g n (with_lane_lem (get_or g n blank_record_lem) t l)) P) c r u l) q puts
 
 pub stands_less : (g : List GuideRecord) (P r S : ℕ) → r ≤ S → Stands g P S → Stands g P r
 stands_less g P r S h k = omega (arith, mul-le r P S P h (omega arith))

@@ -13,28 +13,36 @@ use guide::{Entry, GuideRecord, Lane, entry_at};
 use hierarchy::{Hierarchy, Place};
 
 impl<'a, B: Hierarchy> Judged<'a, B> {
+    // Whether structure `i` is known to be reached.
+    pub(crate) fn is_known(&self, guide: &[GuideRecord], i: usize) -> bool
+        ensures { result ≡ known (look guide.now self.now.places) i }
+    {
+        entry_at(guide, self.places, Lane::Up, i, 0).reached
+    }
+
+    // Makes known what the place `b` names, if it is a box that is reached.
     fn know_one(&self, guide: &mut [GuideRecord], structure: usize, b: usize)
         requires stands { Stands guide.old self.now.places self.now.structures }
         requires inside { structure < self.now.structures }
         requires below { b < self.now.places }
         ensures { ToldBy (B.Hierarchy.meaning self.now.h.now) structure b (look guide.old self.now.places) (look guide.new self.now.places) }
     {
-        if entry_at(guide, self.places, Lane::Plain, structure, b).reached {
-            if let Place::Box(inner) = self.h.place(structure, b) {
-                if !entry_at(guide, self.places, Lane::Up, inner, 0).reached {
-                    put(
-                        guide,
-                        self.places,
-                        Lane::Up,
-                        inner,
-                        0,
-                        child(structure, b, 0),
-                    );
-                }
-            }
+        if entry_at(guide, self.places, Lane::Plain, structure, b).reached
+            && let Place::Box(inner) = self.h.place(structure, b)
+            && !self.is_known(guide, inner)
+        {
+            put(
+                guide,
+                self.places,
+                Lane::Up,
+                inner,
+                0,
+                child(structure, b, 0),
+            );
         }
     }
 
+    // Makes known what the reached boxes of a structure name.
     fn know_boxes(&self, guide: &mut [GuideRecord], structure: usize)
         requires stands { Stands guide.old self.now.places self.now.structures }
         requires inside { structure < self.now.structures }
@@ -45,6 +53,7 @@ impl<'a, B: Hierarchy> Judged<'a, B> {
         }
     }
 
+    // Makes no structure known.
     fn forget(&self, guide: &mut [GuideRecord])
         requires stands { Stands guide.old self.now.places self.now.structures }
         ensures rest { OnlyUp (look guide.old self.now.places) (look guide.new self.now.places) }
@@ -64,12 +73,13 @@ impl<'a, B: Hierarchy> Judged<'a, B> {
         self.forget(guide);
         put(guide, self.places, Lane::Up, 0, 0, child(0, 0, 0));
         for i in 0..self.structures {
-            if entry_at(guide, self.places, Lane::Up, i, 0).reached {
+            if self.is_known(guide, i) {
                 self.know_boxes(guide, i);
             }
         }
     }
 
+    // Whether the structure has a marked node that its entry reaches.
     fn marked_in(&self, guide: &[GuideRecord], structure: usize) -> bool
         requires rows { AllRows (B.Hierarchy.meaning self.now.h.now) guide.now self.now.places self.now.structures }
         requires inside { structure < self.now.structures }
@@ -89,7 +99,7 @@ impl<'a, B: Hierarchy> Judged<'a, B> {
     {
         // a loop, since a closure would have to repeat what `marked_in` requires
         for i in 0..self.structures {
-            if entry_at(guide, self.places, Lane::Up, i, 0).reached && self.marked_in(guide, i) {
+            if self.is_known(guide, i) && self.marked_in(guide, i) {
                 return true;
             }
         }

@@ -48,6 +48,7 @@ pub struct Verdict {
 }
 
 impl<'a, B: Hierarchy> Judged<'a, B> {
+    // A mark that can be met without end, if there is one; the guide then leads to it.
     fn find_ring(&self, guide: &mut [GuideRecord]) -> Option<FoundMark>
         requires rows { AllRows (B.Hierarchy.meaning self.now.h.now) guide.old self.now.places self.now.structures }
         requires knows { AllKnown (B.Hierarchy.meaning self.now.h.now) (look guide.old self.now.places) }

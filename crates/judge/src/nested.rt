@@ -36,6 +36,7 @@ impl<'a, B: Hierarchy> Judged<'a, B> {
         })
     }
 
+    // A place that is not reached and that `v` leads to, by an exit that the box can be passed by.
     fn fresh_leave(
         &self,
         guide: &[GuideRecord],
@@ -50,10 +51,10 @@ impl<'a, B: Hierarchy> Judged<'a, B> {
     {
         // a loop, since a closure would have to repeat what `fresh` requires
         for by in 0..site.places {
-            if self.passed(guide, site, Along::All, inner, by) {
-                if let Some(w) = self.fresh(guide, site, Leads::Leaves { from: v, by }) {
-                    return Some(w);
-                }
+            if self.passed(guide, site, Along::All, inner, by)
+                && let Some(w) = self.fresh(guide, site, Leads::Leaves { from: v, by })
+            {
+                return Some(w);
             }
         }
         None

@@ -39,6 +39,7 @@ impl<'a, B: Hierarchy> Judged<'a, B> {
         self.spread(guide, site);
     }
 
+    // Draws the ring of a place of the structure, if one has a ring.
     fn ring_in(&self, guide: &mut [GuideRecord], structure: usize) -> Option<usize>
         requires rows { AllRows (B.Hierarchy.meaning self.now.h.now) guide.old self.now.places self.now.structures }
         requires inside { structure < self.now.structures }
@@ -59,10 +60,10 @@ impl<'a, B: Hierarchy> Judged<'a, B> {
     {
         // a loop, since after a chain whose closure writes the guide nothing is known of the guide
         for i in 0..self.structures {
-            if entry_at(guide, self.places, Lane::Up, i, 0).reached {
-                if let Some(start) = self.ring_in(guide, i) {
-                    return Some(Ring { home: i, start });
-                }
+            if self.is_known(guide, i)
+                && let Some(start) = self.ring_in(guide, i)
+            {
+                return Some(Ring { home: i, start });
             }
         }
         None

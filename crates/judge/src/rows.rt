@@ -15,6 +15,7 @@ use guide::{GuideRecord, Lane, entry_at};
 use hierarchy::Hierarchy;
 
 impl<'a, B: Hierarchy> Judged<'a, B> {
+    // Fills the row of what the structure's entry reaches.
     fn plain_row(&self, guide: &mut [GuideRecord], structure: usize)
         requires stands { Stands guide.old self.now.places self.now.structures }
         requires inside { structure < self.now.structures }
@@ -42,6 +43,7 @@ impl<'a, B: Hierarchy> Judged<'a, B> {
         self.expand(guide, site, Along::Marks, v, depth);
     }
 
+    // Reaches the targets of the marked hops of all that the structure's entry reaches.
     fn seed_all(&self, guide: &mut [GuideRecord], structure: usize)
         requires stands { Stands guide.old self.now.places self.now.structures }
         requires inside { structure < self.now.structures }
@@ -63,6 +65,7 @@ impl<'a, B: Hierarchy> Judged<'a, B> {
         }
     }
 
+    // Fills the row of what the structure's entry reaches after a mark.
     fn marked_row(&self, guide: &mut [GuideRecord], structure: usize)
         requires stands { Stands guide.old self.now.places self.now.structures }
         requires inside { structure < self.now.structures }

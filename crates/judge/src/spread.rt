@@ -96,6 +96,7 @@ impl<'a, B: Hierarchy> Judged<'a, B> {
         self.met(guide, site, along, inner, by) && self.h.is_exit(inner, by)
     }
 
+    // Leaves the box `v` by each exit that it can be passed by.
     fn expand_box(
         &self,
         guide: &mut [GuideRecord],
@@ -159,6 +160,7 @@ impl<'a, B: Hierarchy> Judged<'a, B> {
         }
     }
 
+    // Takes `v` as done, and follows its hops.
     fn turn(&self, guide: &mut [GuideRecord], site: Site, v: usize)
         requires at { SiteIn (B.Hierarchy.meaning self.now.h.now) guide.old site self.now.structures }
         requires picked { Open (look guide.old site.places) site v }
@@ -170,6 +172,7 @@ impl<'a, B: Hierarchy> Judged<'a, B> {
     }
 }
 
+// A place that is reached and whose hops are still to be followed.
 fn pick(guide: &[GuideRecord], site: Site) -> Option<usize>
     ensures { Picked (look guide.now site.places) site result }
 {
@@ -180,6 +183,7 @@ fn pick(guide: &[GuideRecord], site: Site) -> Option<usize>
 }
 
 impl<'a, B: Hierarchy> Judged<'a, B> {
+    // Follows hops from what is reached, until no hop leads to a place that is not.
     pub(crate) fn spread(&self, guide: &mut [GuideRecord], site: Site)
         requires at { SiteIn (B.Hierarchy.meaning self.now.h.now) guide.old site self.now.structures }
         requires orderly { Orderly (B.Hierarchy.meaning self.now.h.now) site (look guide.old site.places) }

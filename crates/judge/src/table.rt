@@ -2,13 +2,14 @@
 // Everything else writes the guide through these.
 ghost use Rattle.std.specs.Prelude.{◌≡◌, ℕ, ◌<◌};
 ghost use Rattle.guide.specs.Layout.{look, blank};
-ghost use Rattle.judge.specs.Tables.{Stands, Position, Put, Others, with_lane_lem};
+ghost use Rattle.judge.specs.Tables.{Stands, Position, Put, Others};
 ghost use Rattle.judge.specs.Ring.{Aimed};
 ghost use Rattle.judge.specs.Spread.{here, finished, child as child_entry};
 
 use guide::{Entry, GuideRecord, Lane, entry_at};
 
 // Where a search takes place: the structure, and the tree and the row that it fills.
+// It is written out at each use, and made by no function: a proof then sees the site's fields.
 #[derive(Clone, Copy)]
 pub struct Site {
     pub structure: usize,
@@ -26,19 +27,7 @@ fn position(guide: &[GuideRecord], places: usize, row: usize, place: usize) -> u
     row * places + place
 }
 
-fn with_lane(old: GuideRecord, lane: Lane, cell: Entry) -> GuideRecord
-    ensures { result ≡ with_lane_lem old lane cell }
-{
-    match lane {
-        Lane::Plain => GuideRecord { plain: cell, ..old },
-        Lane::Marked => GuideRecord {
-            marked: cell,
-            ..old
-        },
-        Lane::Up => GuideRecord { up: cell, ..old },
-    }
-}
-
+// Writes an entry of one of the trees.
 pub(crate) fn put(
     guide: &mut [GuideRecord],
     places: usize,
@@ -52,19 +41,23 @@ pub(crate) fn put(
     ensures { Put (look guide.old places) (look guide.new places) lane row place cell }
 {
     let at = position(guide, places, row, place);
-    guide[at] = with_lane(guide[at], lane, cell);
+    match lane {
+        Lane::Plain => guide[at].plain = cell,
+        Lane::Marked => guide[at].marked = cell,
+        Lane::Up => guide[at].up = cell,
+    }
 }
 
+// The entry of a place that is reached from `from`, by the exit `via` if that is a box.
 pub(crate) fn child(from: usize, via: usize, depth: usize) -> Entry
     ensures { result ≡ child_entry from via depth }
 {
     Entry {
         reached: true,
-        done: false,
         depth,
         from,
         via,
-        seed: false,
+        ..Entry::blank()
     }
 }
 
@@ -76,16 +69,18 @@ pub(crate) fn set_aim(guide: &mut [GuideRecord], places: usize, row: usize, aim:
     ensures aims { Aimed guide.old guide.new places row aim }
 {
     let at = position(guide, places, row, 0);
-    guide[at] = GuideRecord { aim, ..guide[at] };
+    guide[at].aim = aim;
 }
 
 impl Site {
+    // The site's entry at a place.
     pub(crate) fn get(self, guide: &[GuideRecord], place: usize) -> Entry
         ensures { result ≡ here (look guide.now self.places) self place }
     {
         entry_at(guide, self.places, self.lane, self.row, place)
     }
 
+    // Writes the site's entry at a place.
     pub(crate) fn put(self, guide: &mut [GuideRecord], place: usize, cell: Entry)
         requires stands { Stands guide.old self.places self.row }
         requires inside { place < self.places }
@@ -106,6 +101,7 @@ impl Site {
         old
     }
 
+    // Makes the site's whole row blank.
     pub(crate) fn clear(self, guide: &mut [GuideRecord])
         requires stands { Stands guide.old self.places self.row }
         ensures others { Others (look guide.old self.places) (look guide.new self.places) self.lane self.row }

@@ -1,6 +1,7 @@
 -- A pile that is not too large is its monitors, spread out; more than ten monitors are too large.
 -- Assumes nothing.
-use Rattle.std.proofs.Common.{◌≡◌, ◌^◌, ◌<◌, ◌≤◌, Bool, true, false, cond, not, List, [], ◌∷◌, length, sym, refl, ap, ◌∙◌, pow-suc, arith}
+use Rattle.std.proofs.Common.{◌≡◌, ◌^◌, ◌<◌, ◌≤◌, Bool, true, false, ◌&&◌, cond, not, Option, Some, None, MatchOption, List, [], ◌∷◌, length, sym, refl, ap, ◌∙◌, pow-suc, arith}
+use Rattle.std.proofs.Math.Bool.{and-true, and-false}
 use lib.Pow.{pow-lt}
 use Rattle.std.proofs.lemmas.Nat.{mul-le}
 use Rattle.std.proofs.lemmas.Bool.{both_ways, cond-false}
@@ -32,19 +33,17 @@ fits_all (m ∷ rest) below fits =
     let f = fitting (pile rest below) (automaton_of m) fits in
     f.is ∙ ap (λ b. spread b (automaton_of m)) (fits_all rest below f.under_fits)
 
--- a yes or no of the pile, by that of the monitors spread out and by whether they fit
-module _ (monitors : List Monitor) (below : Meaning) (q : Meaning → Bool) (none : (pile monitors below).large ≡ true → false ≡ q (pile monitors below)) where
-  pub answer_yes : true ≡ q (spread_all monitors below) → not (pile monitors below).large ≡ q (pile monitors below)
-  answer_yes h = by (pile monitors below).large refl where
-    by : (t : Bool) → (pile monitors below).large ≡ t → not t ≡ q (pile monitors below)
-    by true e = none e
-    by false e = h ∙ sym (ap q (fits_all monitors below e))
+-- what is known of an option twice, by cases
+pub of_both : {A G P R : Type 0} {Q S : A → Type 0} (o : Option A) → MatchOption o P Q → MatchOption o R S → (P → R → G) → ((s : A) → Q s → S s → G) → G
+of_both None p r none some = none p r
+of_both (Some s) q r none some = some s q r
 
-  pub answer_no : false ≡ q (spread_all monitors below) → false ≡ q (pile monitors below)
-  answer_no h = by (pile monitors below).large refl where
-    by : (t : Bool) → (pile monitors below).large ≡ t → false ≡ q (pile monitors below)
-    by true e = none e
-    by false e = h ∙ sym (ap q (fits_all monitors below e))
+-- a yes or no of the pile: that of the monitors spread out, if they fit
+pub answer : (monitors : List Monitor) (below : Meaning) (q : Meaning → Bool) → ((pile monitors below).large ≡ true → false ≡ q (pile monitors below)) → (q (spread_all monitors below) && not (pile monitors below).large) ≡ q (pile monitors below)
+answer monitors below q none = by (pile monitors below).large refl where
+  by : (t : Bool) → (pile monitors below).large ≡ t → (q (spread_all monitors below) && not t) ≡ q (pile monitors below)
+  by true e = and-false _ ∙ none e
+  by false e = and-true _ ∙ sym (ap q (fits_all monitors below e))
 
 -- each monitor at least doubles the sizes, so that more than ten are too large
 doubles : (below : Meaning) → Lawful below → (monitors : List Monitor) → (pile monitors below).large ≡ false → 2 ^ length monitors ≤ (pile monitors below).structures

@@ -57,12 +57,11 @@ impl<'a, B: Hierarchy> Hierarchy for Pile<'a, B> {
     }
 
     fn place(&self, i: usize, p: usize) -> Place {
-        match self.fitting() {
-            Some(spread) => spread.place(i, p),
-            None => Place::Absent,
-        }
+        self.fitting()
+            .map_or(Place::Absent, |spread| spread.place(i, p))
     }
 
+    // by cases: entry asks that the structure is there, which a closure would have to repeat
     fn entry(&self, i: usize) -> usize {
         let Some(spread) = self.spread() else {
             return 0;
@@ -78,30 +77,22 @@ impl<'a, B: Hierarchy> Hierarchy for Pile<'a, B> {
     }
 
     fn is_exit(&self, i: usize, p: usize) -> bool {
-        match self.spread() {
-            Some(spread) => spread.is_exit(i, p) && spread.fits(),
-            None => false,
-        }
+        self.spread()
+            .is_some_and(|spread| spread.is_exit(i, p) && spread.fits())
     }
 
     fn look(&self, i: usize, p: usize) -> Look {
-        match self.fitting() {
-            Some(spread) => spread.look(i, p),
-            None => Look::default(),
-        }
+        self.fitting()
+            .map_or(Look::default(), |spread| spread.look(i, p))
     }
 
     fn has_edge(&self, i: usize, p: usize, w: usize) -> bool {
-        match self.spread() {
-            Some(spread) => spread.has_edge(i, p, w) && spread.fits(),
-            None => false,
-        }
+        self.spread()
+            .is_some_and(|spread| spread.has_edge(i, p, w) && spread.fits())
     }
 
     fn has_leave(&self, i: usize, b: usize, e: usize, w: usize) -> bool {
-        match self.spread() {
-            Some(spread) => spread.has_leave(i, b, e, w) && spread.fits(),
-            None => false,
-        }
+        self.spread()
+            .is_some_and(|spread| spread.has_leave(i, b, e, w) && spread.fits())
     }
 }

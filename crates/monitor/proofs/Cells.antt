@@ -3,7 +3,7 @@
 use Rattle.std.proofs.Common.{◌≡◌, ℕ, ◌+◌, ◌*◌, ◌<◌, Bool, true, false, ◌&&◌, ◌||◌, eqb, ltb, ◌≢◌, ◌⊎◌, List, length, get_or, set, replicate, sym, refl, ap, ◌∙◌, ⊎_elim, arith}
 use lib.Bits.{bit_and}
 use Rattle.std.proofs.lemmas.List.{get_or-set_same, get_or-set_other, get_or-replicate}
-use Rattle.std.proofs.lemmas.Bool.{lt-ltb}
+use Rattle.std.proofs.lemmas.Bool.{lt-ltb, or_right}
 use Rattle.std.proofs.lemmas.Bool.Decides.{nat_tests}
 
 abbrev pub cell : ℕ → ℕ → ℕ → ℕ
@@ -69,10 +69,6 @@ module _ (q care value r : ℕ) where
   or_false true x e = refl
   or_false false x e = sym e
 
-  or_true : (b x : Bool) → x ≡ true → (b || x) ≡ true
-  or_true true x e = refl
-  or_true false x e = e
-
   pub added_first : (before : List Bool) → Added before 0 before
   added_first before p a t = or_false (at before p a t) _ (added_none p a t)
 
@@ -91,7 +87,7 @@ module _ (q care value r : ℕ) where
     here : (p ≡ q) × (a ≡ n) × (t ≡ r) → at after p a t ≡ (at before p a t || added (n + 1) q care value r p a t)
     here e =
         rw (e.0, e.1, e.2)
-        (at_set_here cells q n r full hq hn hr ∙ sym (or_true (at before q n r) _ (added_here n match)))
+        (at_set_here cells q n r full hq hn hr ∙ sym (or_right (at before q n r) _ (added_here n match)))
 
     else : (p ≡ q → a ≡ n → t ≡ r → ⊥) → at after p a t ≡ (at before p a t || added (n + 1) q care value r p a t)
     else other =

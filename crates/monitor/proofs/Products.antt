@@ -28,7 +28,7 @@ too_large_lawful = record {
 
 -- ---- places above
 
-kind_node : (f k : ℕ) (s : Kind) → kind_above f k s ≡ node → s ≡ node
+pub kind_node : (f k : ℕ) (s : Kind) → kind_above f k s ≡ node → s ≡ node
 kind_node f k absent e = e
 kind_node f k node e = e
 kind_node f k (box j) e = absurd (let z : ◌≡◌ {A = ℕ} 0 1 = cc in omega arith)

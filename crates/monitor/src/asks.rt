@@ -74,6 +74,7 @@ impl Monitor {
 #[derive(Clone, Copy)]
 struct Spot {
     state: usize,
+    // The phase is a number, since it is a part of the number that a place has above.
     phase: usize,
 }
 

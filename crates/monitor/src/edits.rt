@@ -1,8 +1,7 @@
 // The edits of a monitor, which change it in place.
 // A refused edit alters nothing; of several refusals the least number is given.
 ghost use Rattle.std.specs.Prelude.{◌≡◌, false, is_ok};
-ghost use Rattle.monitor.specs.Edits.{new_automaton, state_edit, step_edit, accept_edit};
-ghost use Rattle.monitor.specs.Edits.{Ascends, state_refusals, step_refusals, accept_refusals};
+ghost use Rattle.monitor.specs.Edits.{new_automaton, state_edit, step_edit, accept_edit, Ascends, state_refusals, step_refusals, accept_refusals};
 ghost use Rattle.monitor.specs.Tables.{automaton_of};
 
 use crate::Monitor;

@@ -36,6 +36,7 @@ impl Monitor {
     }
 
     // All of a list of edits; one that is refused alters nothing.
+    // Chart and monitor each have this loop: a trait for it would be longer than both.
     pub fn replay(&mut self, edits: &[MonitorEdit])
         ensures { automaton_of self.new ≡ replayed (automaton_of self.old) edits.now }
     {

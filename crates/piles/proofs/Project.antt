@@ -1,12 +1,13 @@
 -- The flat form of a product projects onto the one below: boxes and node by division, state and phase by remainder.
 -- Assumes nothing.
-use Rattle.std.proofs.Common.{◌≡◌, ℕ, ◌+◌, ◌*◌, ◌/◌, ◌%◌, ◌<◌, Bool, true, false, ◌&&◌, eqb, sym, refl, ap, ◌∙◌, subst, ap₂, mod-lt, arith}
+use Rattle.std.proofs.Common.{◌≡◌, ℕ, ◌+◌, ◌*◌, ◌/◌, ◌%◌, ◌<◌, Bool, true, false, ◌&&◌, eqb, sym, refl, ap, ◌∙◌, subst, ap₂, mod-lt}
 use native.Mathlib.Nat.{zero-div}
 use lib.Arith.{digits_div, digits_mod}
 use Rattle.std.proofs.lemmas.Bool.{and_parts, both_ways, lt-ltb}
 use Rattle.hierarchy.specs.Meaning.{Meaning, Lawful, Kind, absent, node, box}
 use Rattle.hierarchy.specs.Flat.{State, at, within, inner_of, last_structure, last_node, letter_of, Enter, to_node, to_box, Step, by_edge, by_leave, inside}
 use Rattle.monitor.specs.Automata.{Automaton}
+use Rattle.monitor.proofs.Products.{kind_node, kind_box}
 use Rattle.monitor.specs.Product.{width, next_phase_lem, moves, kind_above, at_inner, spread}
 
 -- the state below
@@ -21,16 +22,6 @@ mark_of m i s = m.mark (last_structure m i s) (last_node s)
 pub last_node_down : (f : ℕ) (s : State) → last_node (down f s) ≡ last_node s / f
 last_node_down f (at n) = refl
 last_node_down f (within b s) = last_node_down f s
-
-pub kind_node : (f k : ℕ) (s : Kind) → kind_above f k s ≡ node → s ≡ node
-kind_node f k absent e = e
-kind_node f k node e = e
-kind_node f k (box j) e = let z : ◌≡◌ {A = ℕ} 0 1 = cc in absurd (omega arith)
-
-pub kind_box : (f k j : ℕ) (s : Kind) → kind_above f k s ≡ box j → (i : ℕ) × (s ≡ box i) × (j ≡ i * f + k)
-kind_box f k j absent e = let z : ◌≡◌ {A = ℕ} 0 1 = cc in absurd (omega arith)
-kind_box f k j node e = let z : ◌≡◌ {A = ℕ} 0 1 = cc in absurd (omega arith)
-kind_box f k j (box i) e = (i, refl, cc)
 
 inner_down : (f k : ℕ) (s : Kind) → k < f → inner_of (kind_above f k s) / f ≡ inner_of s
 inner_down f k absent h = zero-div f

@@ -10,6 +10,7 @@ use Rattle.chart.specs.Lawful.{chart_lawful}
 use Rattle.monitor.specs.declared.Monitor.{Monitor}
 use Rattle.monitor.specs.Product.{product, width, overflows}
 use Rattle.monitor.specs.Tables.{automaton_of, monitor_proper}
+use Rattle.layer.proofs.Numbers.{width_few}
 use Rattle.theory.proofs.Depth.{shallow}
 use Rattle.piles.proofs.Piles.{product_large}
 use Rattle.piles.proofs.Depth.{pile_depth}
@@ -23,9 +24,6 @@ places_few c = longest_le (sheet c) 16 c.places
 
 pub chart_boxes : (c : Chart) → FewBoxes (meaning_of (sheet c))
 chart_boxes c s r = omega (arith, shallow (meaning_of (sheet c)) (chart_lawful c) refl s r, structures_few c)
-
-width_few : (k : Monitor) → width (automaton_of k) ≤ 8
-width_few k = omega (arith, k.few)
 
 pub layer_fits : (c : Chart) (k : Monitor) → (product (meaning_of (sheet c)) (automaton_of k)).large ≡ false
 unfolding overflows

@@ -1,16 +1,16 @@
 -- How long the lines of a report are: the states that a run goes through have few boxes and small numbers.
 -- Assumes nothing.
-use Rattle.std.proofs.Common.{◌≡◌, ℕ, zero, suc, ◌+◌, ◌*◌, ◌<◌, ◌≤◌, Bool, true, false, List, ◌∷◌, ◌++◌, length, codes, decimal, sym, subst, arith}
+use Rattle.std.proofs.Common.{◌≡◌, ℕ, zero, suc, ◌+◌, ◌*◌, ◌<◌, ◌≤◌, Bool, true, false, List, ◌∷◌, ◌++◌, length, codes, decimal, arith}
 use Rattle.std.proofs.lemmas.List.{length-append}
 use Rattle.std.proofs.lemmas.Fmt.{length-decimal-le}
 use Rattle.hierarchy.specs.Meaning.{Meaning, Lawful}
-use Rattle.hierarchy.specs.Flat.{State, at, within, stop, Reach}
+use Rattle.hierarchy.specs.Flat.{State, at, within, Reach}
 use Rattle.hierarchy.specs.Runs.{Run}
 use Rattle.theory.specs.Hops.{HopReach, a_node}
 use Rattle.theory.specs.OneSearch.{boxes}
-use Rattle.theory.proofs.Paths.{snoc}
 use Rattle.theory.proofs.Reaching.{reach→hops, box_there, box_reach}
 use Rattle.theory.proofs.Depth.{node_number, box_number}
+use Rattle.theory.proofs.Running.{run_reach}
 use Rattle.walk.specs.Shown.{mark_of}
 use Rattle.report.specs.Text.{numbers_text, star_text, line_feed, state_line, run_lines, size_line, yes_no, answer_line, head_text}
 use Rattle.report.specs.Report.{FewBoxes}
@@ -51,10 +51,6 @@ lines_length : (m : Meaning) (s : ℕ → State) → ((k : ℕ) → length (stat
 unfolding run_lines
 lines_length m s h zero = omega arith
 lines_length m s h (suc n) = omega (arith, h n, lines_length m s h n, length-append (run_lines m s n) (state_line m (s n)))
-
-run_reach : {m : Meaning} (r : Run m) (n : ℕ) → Reach m 0 (r.state n)
-run_reach {m} r zero = subst (λ (s : State). Reach m 0 s) (sym r.begins) stop
-run_reach r (suc n) = snoc (run_reach r n) (r.moves n)
 
 -- the first six states of a run
 pub six_lines : (m : Meaning) → Lawful m → m.large ≡ false → FewBoxes m → (r : Run m) → length (run_lines m r.state 6) ≤ 966

@@ -7,7 +7,7 @@ use crate::lines::push_head;
 use crate::states::push_states;
 use crate::text::{OUTPUT, ReportText, put_front};
 use guide::GuideRecord;
-use hierarchy::{Hierarchy, Refusal, Size};
+use hierarchy::{Hierarchy, Refusal};
 use judge::{Verdict, judge};
 use walk::{Frame, walkable};
 
@@ -27,10 +27,10 @@ pub(crate) fn report_on<B: Hierarchy>(
     if output.len() < OUTPUT {
         return Err(Refusal::TooLittleMemory);
     }
-    let Size { structures, places } = walkable(h, guide.len(), frames.len())?;
+    let size = walkable(h, guide.len(), frames.len())?;
     let Verdict { reach, recur } = judge(h, guide)?;
     let mut text = ReportText::new();
-    push_head(&mut text, structures, places, reach, recur.is_some());
+    push_head(&mut text, size, reach, recur.is_some());
     if let Some(found) = recur {
         push_states(&mut text, h, guide, frames, found)?;
     }

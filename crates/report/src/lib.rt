@@ -26,6 +26,7 @@ use hierarchy::Refusal;
 use layer::Layer;
 use monitor::Monitor;
 pub use refused::{fault_text, refusal_text};
+pub use text::OUTPUT;
 use walk::Frame;
 
 // Reports on a chart: writes all that is printed to the front of the output, and answers how many bytes that is. It

@@ -6,17 +6,17 @@ ghost use Rattle.report.specs.Writing.{Room};
 ghost use Rattle.report.specs.Text.{head_text, size_line, answer_line, state_line, dotted};
 
 use crate::text::{ReportText, push_number};
-use hierarchy::Hierarchy;
+use hierarchy::{Hierarchy, Size};
 use walk::{Frame, Walk};
 
-fn push_size(text: &mut ReportText, structures: usize, places: usize)
-    requires { Room 2048 text.old.bytes (size_line structures places) }
-    ensures { text.new.bytes ≡ text.old.bytes ++ size_line structures places }
+fn push_size(text: &mut ReportText, size: Size)
+    requires { Room 2048 text.old.bytes (size_line size.structures size.places) }
+    ensures { text.new.bytes ≡ text.old.bytes ++ size_line size.structures size.places }
 {
     text.push_str("size ");
-    push_number(text, structures);
+    push_number(text, size.structures);
     text.push_str(" ");
-    push_number(text, places);
+    push_number(text, size.places);
     text.push_str("\n");
 }
 
@@ -29,17 +29,11 @@ fn push_answer(text: &mut ReportText, name: &str, answer: bool)
 }
 
 // Size and verdict.
-pub(crate) fn push_head(
-    text: &mut ReportText,
-    structures: usize,
-    places: usize,
-    reach: bool,
-    recur: bool,
-)
-    requires { Room 2048 text.old.bytes (head_text structures places reach recur) }
-    ensures { text.new.bytes ≡ text.old.bytes ++ head_text structures places reach recur }
+pub(crate) fn push_head(text: &mut ReportText, size: Size, reach: bool, recur: bool)
+    requires { Room 2048 text.old.bytes (head_text size.structures size.places reach recur) }
+    ensures { text.new.bytes ≡ text.old.bytes ++ head_text size.structures size.places reach recur }
 {
-    push_size(text, structures, places);
+    push_size(text, size);
     push_answer(text, "reach ", reach);
     push_answer(text, "recur ", recur);
 }
@@ -49,12 +43,8 @@ fn push_boxes(text: &mut ReportText, walk: &Walk, frames: &[Frame])
     requires { Room 2048 text.old.bytes (dotted (outer_frames walk.now frames.now)) }
     ensures { text.new.bytes ≡ text.old.bytes ++ dotted (outer_frames walk.now frames.now) }
 {
-    // by index, since a walk tells its boxes one at a time
-    for i in 0..walk.boxes(frames) {
-        let Some(place) = walk.box_at(frames, i) else {
-            return;
-        };
-        push_number(text, place);
+    for frame in walk.outer(frames) {
+        push_number(text, frame.place);
         text.push_str(".");
     }
 }

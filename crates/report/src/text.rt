@@ -7,12 +7,13 @@ use arrayvec::ArrayString;
 use itoa::Buffer;
 
 // How many bytes of output a report needs at least, whatever it prints.
-pub(crate) const OUTPUT: usize = 2048;
+pub const OUTPUT: usize = 2048;
 
 // A report while it is built.
 pub(crate) type ReportText = ArrayString<OUTPUT>;
 
-// A number in decimal.
+// A number in decimal. Pushed and not by `write!`: there is room by the clauses, and `write!` would answer a failure that
+// cannot be.
 pub(crate) fn push_number<const N: usize>(text: &mut ArrayString<N>, n: usize)
     requires { Room N text.old.bytes (decimal n) }
     ensures { text.new.bytes ≡ text.old.bytes ++ decimal n }

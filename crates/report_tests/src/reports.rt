@@ -7,6 +7,7 @@ use monitor::Monitor;
 use report::{fault_text, refusal_text, report_chart, report_file, report_monitored};
 use walk::Frame;
 
+// The sample of the documents, which two crates of tests read.
 const SAMPLE: [u8; 31] = [
     1, 2, 3, 0, 1, 2, 0, 0x81, 2, 1, 0, 4, 1, 1, 6, 1, 0, 1, 6, 0, 0, 1, 7, 0, 1, 1, 2, 6, 0, 2, 1,
 ];

@@ -8,8 +8,8 @@ use Rattle.hierarchy.specs.Meaning.{Meaning, node, box, Lawful}
 use Rattle.hierarchy.specs.Flat.{State, at, within, Reach}
 use Rattle.theory.specs.Hops.{HopReach, a_node, in_box}
 use Rattle.theory.specs.OneSearch.{boxes, Shallow}
-use Rattle.theory.proofs.Paths.{node_not_absent, box_not_absent}
 use Rattle.theory.proofs.Reaching.{reach→hops, box_there, box_reach}
+use Rattle.hierarchy.proofs.Beyond.{node_present, box_present}
 
 -- ---- the states of at most d boxes with numbers below n
 numbers : ℕ → List ℕ
@@ -40,10 +40,10 @@ shallow_states n (suc d) = map at (numbers n) ++ all_within (numbers n) (shallow
 
 module _ {m : Meaning} (L : Lawful m) where
   pub node_number : {i p : ℕ} → m.place i p ≡ node → (i < m.structures) × (p < m.places)
-  node_number {i} {p} e = L.within i p (node_not_absent e)
+  node_number {i} {p} e = L.within i p (node_present _ e)
 
   pub box_number : {i p j : ℕ} → m.place i p ≡ box j → (i < m.structures) × (p < m.places)
-  box_number {i} {p} e = L.within i p (box_not_absent e)
+  box_number {i} {p} e = L.within i p (box_present _ _ e)
 
   pub reach_shallow : (s : State) (i : ℕ) → i < m.structures → Reach m i s → i + boxes s < m.structures
   reach_shallow (at n) i h p = omega (arith, h)

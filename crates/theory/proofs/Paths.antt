@@ -30,12 +30,6 @@ same_box e f = cc
 pub node_not_box : {k : Kind} {j : ℕ} → k ≡ node → k ≡ box j → ⊥
 node_not_box e f = let z : ◌≡◌ {A = ℕ} 0 1 = cc in omega arith
 
-pub node_not_absent : {k : Kind} → k ≡ node → k ≡ absent → ⊥
-node_not_absent e f = let z : ◌≡◌ {A = ℕ} 0 1 = cc in omega arith
-
-pub box_not_absent : {k : Kind} {j : ℕ} → k ≡ box j → k ≡ absent → ⊥
-box_not_absent e f = let z : ◌≡◌ {A = ℕ} 0 1 = cc in omega arith
-
 -- ---- moves into a place
 pub enter_once : {m : Meaning} {i w : ℕ} {s t : State} → Enter m i w s → Enter m i w t → s ≡ t
 enter_once (to_node e) (to_node f) = refl

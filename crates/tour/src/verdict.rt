@@ -10,6 +10,7 @@ use std::alloc::{AllocError, Global};
 use std::io;
 use walk::{Frame, Walk};
 
+// as many records and frames as the program chartjudge lends; a crate for two constants would be no plainer
 const RECORDS: usize = 4096;
 
 const FRAMES: usize = 256;
@@ -32,6 +33,7 @@ impl Memory {
     }
 }
 
+// Two programs have this function: a crate for it would be no plainer.
 fn yes(answer: bool) -> &'static str {
     if answer { "yes" } else { "no" }
 }
@@ -67,11 +69,9 @@ fn tell_state(
     frames: &[Frame],
 ) -> io::Result<()> {
     print!(rt; "  ")?;
-    for i in 0..walk.boxes(frames) {
-        if let Some(place) = walk.box_at(frames, i) {
-            let place = place / 16;
-            print!(rt; "box {place}, ")?;
-        }
+    for frame in walk.outer(frames) {
+        let place = frame.place / 16;
+        print!(rt; "box {place}, ")?;
     }
     let node = walk.node(pile) / 16;
     let mark = if walk.is_marked(pile, frames) {
@@ -91,8 +91,8 @@ fn tell_walk<'a>(rt: &HostRuntime, chart: &'a Chart, monitors: &'a [Monitor]) ->
     match endless::judge_and_walk(&pile, &mut guide, &mut frames, 0) {
         Ok(
             Judgment {
-                reach: _,
                 walk: Some(mut walk),
+                ..
             },
         ) => {
             println!(rt; "A walk was started, and shows the forbidden loop:")?;
@@ -105,12 +105,7 @@ fn tell_walk<'a>(rt: &HostRuntime, chart: &'a Chart, monitors: &'a [Monitor]) ->
             }
             Ok(())
         }
-        Ok(
-            Judgment {
-                reach: _,
-                walk: None,
-            },
-        ) => println!(rt; "There is no walk to show."),
+        Ok(Judgment { walk: None, .. }) => println!(rt; "There is no walk to show."),
         Err(refusal) => tell_refusal(rt, refusal),
     }
 }
@@ -131,22 +126,12 @@ pub fn show_forbidden(rt: &HostRuntime, chart: &Chart, monitors: [Monitor; 2]) -
 // What the verdict on the mended drawing means.
 fn tell_meaning(rt: &HostRuntime, judged: &Result<Judgment, Refusal>) -> io::Result<()> {
     match judged {
-        Ok(
-            Judgment {
-                reach: _,
-                walk: None,
-            },
-        ) => {
+        Ok(Judgment { walk: None, .. }) => {
             println!(rt;
                 "No run serves A without end and starves B: the schedule is free of the forbidden loop."
             )
         }
-        Ok(
-            Judgment {
-                reach: _,
-                walk: Some(_),
-            },
-        ) => println!(rt; "The forbidden loop is still there."),
+        Ok(Judgment { walk: Some(_), .. }) => println!(rt; "The forbidden loop is still there."),
         Err(_) => println!(rt; "There is no verdict."),
     }
 }

@@ -1,18 +1,9 @@
 -- Climbing a search tree of a good guide: every edge of it is a hop, it ends at the root, and a marked way meets a seed.
 -- Assumes nothing.
 use Rattle.std.proofs.Common.{◌≡◌, ℕ, zero, suc, ◌<◌, true, false, cond, sym, refl, ap, ◌∙◌, subst, arith}
-use Rattle.hierarchy.specs.Meaning.{Meaning, Kind, absent, node, box}
+use Rattle.hierarchy.specs.Meaning.{Meaning}
 use Rattle.guide.specs.Trees.{Tree, plain, marked, ring, Guide, Vertex, entry_at, parent, up, TreeHop}
 use Rattle.guide.specs.Trees.{Sound, root, child, marked_seed, ring_seed, Row, Good}
-
-pub same_box : {p : Kind} {j k : ℕ} → p ≡ box j → p ≡ box k → j ≡ k
-same_box e f = cc
-
-pub not_both : {p : Kind} {j : ℕ} → p ≡ node → p ≡ box j → ⊥
-not_both e f = cc
-
-pub node_here : {p : Kind} → p ≡ node → p ≡ absent → ⊥
-node_here e f = cc
 
 -- climbing
 pub up_from : (g : Guide) (i : ℕ) (v : Vertex) (n : ℕ) → up g.tree i v (suc n) ≡ up g.tree i (parent g.tree i v) n

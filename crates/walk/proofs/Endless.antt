@@ -11,7 +11,9 @@ use Rattle.walk.specs.declared.frame.Way.TheVariants.{Pass, PassMarked, Lead, Ri
 use Rattle.walk.specs.declared.frame.Frame.{Frame}
 use Rattle.walk.specs.Levels.{is_pass_lem, goal_of_lem, turn_way, turn_left}
 use Rattle.walk.specs.Walks.{Stack, inmost, outer, shown, land, done_at, ended, advance, walk, ShowsRun, Walking}
-use Rattle.walk.proofs.Paths.{append, down, marked_inside}
+use Rattle.theory.proofs.Paths.{append}
+use Rattle.theory.proofs.Numbers.{down}
+use Rattle.theory.proofs.Paths.{marked_inside}
 use Rattle.walk.proofs.Climbs.{ring_apart, Seeded, seeds_of, deep}
 use Rattle.walk.proofs.Fits.{first, settled, hopped, goes, done, crossing, handed, alone, above, Fit, Valid, aim_lead, aim_ring, frame, settled_valid, lead_no_pass, node_ready, ring_back, ring_fit, lead_fit, hand}
 use Rattle.walk.proofs.Moves.{tree_end, move}

@@ -11,7 +11,8 @@ use Rattle.walk.specs.declared.frame.Way.TheVariants.{Pass, PassMarked, Lead, Ri
 use Rattle.walk.specs.declared.frame.Frame.{Frame}
 use Rattle.walk.specs.Levels.{tree_of, is_pass_lem, goal_of_lem, turn_way, turn_left, turned, lead_level, pass_way, pass_on, inner}
 use Rattle.walk.specs.Walks.{Stack, inmost, outer, shown, settle, land}
-use Rattle.walk.proofs.Climbs.{same_box, not_both, climb}
+use Rattle.theory.proofs.Paths.{same_box, node_not_box}
+use Rattle.walk.proofs.Climbs.{climb}
 
 -- the outermost level
 abbrev pub first : Stack → Frame
@@ -180,7 +181,7 @@ module _ {m : Meaning} (L : Lawful m) {g : Guide} (G : Good m g) where
   pub node_ready : {i : ℕ} {lv : Frame} → Fit m g i lv → Awake m g i lv → m.place i lv.place ≡ node → Ready lv
   node_ready F (moving n e) q = goes n e
   node_ready F (ending p e) q = done p e
-  node_ready {i} F (handing w e b c) q = absurd (not_both q (ap (m.place i) (at_goal F e) ∙ b))
+  node_ready {i} F (handing w e b c) q = absurd (node_not_box q (ap (m.place i) (at_goal F e) ∙ b))
 
   -- the hop that a level makes next
   pub stood : {i n : ℕ} {lv : Frame} → Fit m g i lv → lv.left ≡ suc n → lv.place ≡ (entry_at g.tree i (up g.tree i (goal_of_lem lv) n)).from
@@ -204,7 +205,7 @@ module _ {m : Meaning} (L : Lawful m) {g : Guide} (G : Good m g) where
       at_from = stood F e
 
       go : TreeHop m g.tree i (up g.tree i (goal_of_lem lv) n) → Crossed i j n lv
-      go (tree_edge d k) = absurd (not_both (L.edge_from _ _ _ d) (ap (m.place i) (sym at_from) ∙ b))
+      go (tree_edge d k) = absurd (node_not_box (L.edge_from _ _ _ d) (ap (m.place i) (sym at_from) ∙ b))
       go (tree_leave {j = j'} c l r k) =
           let q : j' ≡ j = same_box c (ap (m.place i) (sym at_from) ∙ b) in
           let f = L.leave_from _ _ _ _ l in
@@ -228,7 +229,7 @@ module _ {m : Meaning} (L : Lawful m) {g : Guide} (G : Good m g) where
 
       go : TreeHop m g.tree i (up g.tree i (goal_of_lem lv) n) → Edged i n lv
       go (tree_edge d k) = record { edges = rw at_from d; seeds = rw at_from k }
-      go (tree_leave c l r k) = absurd (not_both b (ap (m.place i) at_from ∙ c))
+      go (tree_leave c l r k) = absurd (node_not_box b (ap (m.place i) at_from ∙ c))
 
   pub pass_in : {i j n : ℕ} {lv : Frame} → Fit m g i lv → lv.left ≡ suc n → m.place i lv.place ≡ box j →
       Fit m g j (inner m g i lv j (suc n)) × (is_pass_lem (inner m g i lv j (suc n)).way ≡ true)
@@ -251,7 +252,7 @@ module _ {m : Meaning} (L : Lawful m) {g : Guide} (G : Good m g) where
   pub box_valid : {i j : ℕ} {lv : Frame} (n : ℕ) → lv.left ≡ n → Fit m g i lv → Awake m g i lv → m.place i lv.place ≡ box j →
       Valid m g i (outer lv (inmost (inner m g i lv j n)))
   box_valid zero e F (moving n f) b = absurd (omega arith)
-  box_valid zero e F (ending p f) b = absurd (not_both (end_node F p f) b)
+  box_valid zero e F (ending p f) b = absurd (node_not_box (end_node F p f) b)
   box_valid {i} {j} {lv} zero e F (handing w f c k) b =
       let q = same_box (ap (m.place i) (at_goal F f) ∙ c) b in
       let h = (L.inner _ _ _ b).1 in

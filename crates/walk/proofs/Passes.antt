@@ -13,10 +13,14 @@ use Rattle.walk.specs.declared.frame.Way.TheVariants.{Pass, PassMarked, Lead, Ri
 use Rattle.walk.specs.declared.frame.Frame.{Frame}
 use Rattle.walk.specs.Levels.{is_pass_lem, less, goal_of_lem, turn_way, turn_left, turned, pass_way, pass_on, inner}
 use Rattle.walk.specs.Walks.{Stack, inmost, outer, shown, settle, land, ended, advance}
-use Rattle.walk.proofs.Paths.{append, Meets, down, marked_inside}
-use Rattle.walk.proofs.Climbs.{marked_apart, not_both, node_here, Seeded, seeds_of, deep}
+use Rattle.theory.proofs.Paths.{append, node_not_box}
+use Rattle.theory.proofs.Numbers.{down}
+use Rattle.theory.proofs.Paths.{marked_inside}
+use Rattle.walk.proofs.Paths.{Meets}
+use Rattle.walk.proofs.Climbs.{marked_apart, Seeded, seeds_of, deep}
 use Rattle.walk.proofs.Fits.{first, settled, hopped, land_first, goes, crossing, handed, alone, above, moving, Fit, Valid, turn_pass, aim_pass, frame, settled_valid, pass_ready, land_valid, end_node, pass_fit, pass_in, crossed, hop_at, edged}
 use Rattle.walk.proofs.Moves.{ended_goes, ended_done, finished, tree_end, hop_fit, adv_out, adv_in, Moved, move}
+use Rattle.hierarchy.proofs.Beyond.{node_present}
 
 module _ {m : Meaning} (L : Lawful m) {g : Guide} (G : Good m g) where
   -- runs
@@ -123,7 +127,7 @@ module _ {m : Meaning} (L : Lawful m) {g : Guide} (G : Good m g) where
 
   pub pass_end : {j : ℕ} {s : Stack} → Valid m g j s → is_pass_lem (first s).way ≡ true → (first s).left ≡ 0 → ended s ≡ true
   pass_end (alone {lv = lv} F b R) p e = ended_done L G lv p e
-  pass_end (above F b K V) p e = absurd (not_both (end_node L G F p e) b)
+  pass_end (above F b K V) p e = absurd (node_not_box (end_node L G F p e) b)
 
   -- a pass that has landed L G at its goal is ended
   pub pass_landed : {j : ℕ} {s : Stack} (lv : Frame) → Valid m g j s → Goes j s (land m g j (hopped g j lv 0)) → is_pass_lem lv.way ≡ true → ended (land m g j (hopped g j lv 0)) ≡ true
@@ -245,6 +249,6 @@ module _ {m : Meaning} (L : Lawful m) {g : Guide} (G : Good m g) where
           let k = deep G marked_apart (G.sound marked i e h r) in
           let S : Seeded g i (goal_of_lem lv) (suc k.0) = subst (Seeded g i (goal_of_lem lv)) k.1 (seeds_of G (g.tree marked i e).depth marked i e marked_apart h r refl) in
           let nd = L.entered i h in
-          let o : GoesMarked i (settled m g i lv) (land m g i (hopped g i lv 0)) = to_goal_marked k.0 (λ j a b. ends j b) DM F k.1 (node_here nd) S in
+          let o : GoesMarked i (settled m g i lv) (land m g i (hopped g i lv 0)) = to_goal_marked k.0 (λ j a b. ends j b) DM F k.1 (node_present _ nd) S in
           let o' : GoesMarked i (inmost lv) (land m g i (hopped g i lv 0)) = subst (λ q. GoesMarked i (settle m g i lv q) (land m g i (hopped g i lv 0))) nd o in
           record { last = land m g i (hopped g i lv 0); run = o'; over = pass_landed lv (alone F nd (goes k.0 k.1)) (append o'.before o'.after) refl }

@@ -55,6 +55,3 @@ graft_take xs d e s h = rw add-one (go xs d h)
 pub land_box : (m : Meaning) (g : Guide) (i : ℕ) (f t q : Frame) (j : ℕ) → m.place i f.place ≡ box j → t ≡ turned g i f → q ≡ inner m g i t j t.left →
     outer t (inmost q) ≡ land m g i f
 land_box m g i f t q j e u h = rw (e, h, u) refl
-
-pub box_present : {k : Kind} (j : ℕ) → k ≡ box j → k ≡ absent → ⊥
-box_present j e f = cc

@@ -56,6 +56,11 @@ shown_node m w fs = go w.stand
     go None = refl
     go (Some s) = graft_node (take s.depth fs) s.last
 
+-- by cases told: N where it has not stepped, and S of where it stands
+pub node_told : (m : Meaning) (o : Option Stand) (r : ℕ) {N : Type 0} {S : Stand → Type 0} → (N → r ≡ m.entry 0) → ((s : Stand) → S s → r ≡ s.last.place) → MatchOption o N S → r ≡ node_at m o
+node_told m None r f g e = f e
+node_told m (Some s) r f g e = g s e
+
 pub length_places : (fs : List Frame) → length (box_places fs) ≡ length fs
 length_places [] = refl
 length_places (f ∷ fs) = ap suc (length_places fs)

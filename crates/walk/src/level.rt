@@ -1,5 +1,6 @@
 // What one level of a walk does: its next hop, its turn at the goal, and the level that it pushes into a box.
 // All of it is read from the guide; nothing here is asked whether it is a transition.
+// A frame holds no structure: where it stands is found by the frames around it.
 ghost use Rattle.std.specs.Prelude.{◌≡◌, ◌+◌, ◌≤◌};
 ghost use Rattle.walk.specs.Levels.{hop as hopped, turned as level_turned, lead_level, pass_level, inner as inner_level};
 ghost use Rattle.walk.specs.Memory.{guide_by, goes_round_lem};

@@ -94,7 +94,8 @@ impl Plan<'_> {
         }
     }
 
-    // The ancestor of a place, so many tree edges up.
+    // The ancestor of a place, so many tree edges up. The bound is asked from call to call: frames are lent, so no type
+    // keeps it.
     pub(crate) fn climb(&self, structure: usize, start: Spot, edges: usize) -> Spot
         requires { edges ≤ self.now.size.places + self.now.size.places }
         ensures { spot_told result ≡ up (guide_by self.now).tree structure (spot_told start) edges }

@@ -33,6 +33,7 @@ fn locate<B: Hierarchy>(h: &B, frames: &[Frame]) -> Option<usize>
 
 impl Plan<'_> {
     // Whether a level has more tree edges left than a tree can have.
+    // Two rows, said without a sum, which could overflow: the size is any.
     fn is_far(&self, level: Frame) -> bool
         ensures { result ≡ nat_lt (self.now.size.places + self.now.size.places) level.left }
     {
@@ -67,6 +68,7 @@ impl<B: Hierarchy> Guided<'_, B> {
                     return None;
                 }
                 let last = self.inner(structure, turned, into);
+                // by index: after `get_mut` of a slice nothing is known of its elements
                 frames[depth] = turned;
                 Some(Stand {
                     depth: depth + 1,

@@ -43,7 +43,8 @@ pub fn start(found: FoundMark) -> Walk
     }
 }
 
-// The size of the hierarchy, if it can be walked with so many guide records and frames.
+// The size of the hierarchy, if it can be walked with so many guide records and frames. A judge asks for the same records:
+// written out in both, since of any size the product could overflow, and both know its bounds.
 pub fn walkable<B: Hierarchy>(h: &B, records: usize, frames: usize) -> Result<Size, Refusal>
     ensures { result ≡ size_or (B.Hierarchy.meaning h.now) (lacking (B.Hierarchy.meaning h.now) records frames) }
 {
@@ -59,6 +60,7 @@ impl Walk {
     fn standing<B: Hierarchy>(&self, guided: &Guided<B>) -> Stand
         ensures { (fs : List Frame) → stack_of fs result ≡ levels (B.Hierarchy.meaning guided.now.h.now) (guide_by guided.now.plan) self.now fs }
     {
+        // by cases: of a value that a closure makes nothing would be known here
         match self.stand {
             Some(stand) => stand,
             None => Stand {

@@ -39,6 +39,7 @@ impl Wheel {
     }
 
     // The sizes that count.
+    #[tactic(auto, unfolding(crate::specs::Made::sizes_of))]
     pub(crate) fn sizes(&self) -> &[usize]
         ensures { result.now ≡ sizes_of self.now }
     {

@@ -22,10 +22,10 @@ fn steps_round<B: Hierarchy>(
     most: usize,
 ) -> Result<Option<usize>, Refusal> {
     let mut walk = start(found);
-    for before in 0..most {
+    for steps in 1..=most {
         walk.step(h, guide, frames)?;
         if at_start(&walk, h, frames) {
-            return Ok(Some(before + 1));
+            return Ok(Some(steps));
         }
     }
     Ok(None)
@@ -37,12 +37,11 @@ fn cycle_length<B: Hierarchy>(
     guide: &mut [GuideRecord],
     most: usize,
 ) -> Result<Option<usize>, Refusal> {
-    let verdict = judge(h, guide)?;
+    let Some(found) = judge(h, guide)?.recur else {
+        return Ok(None);
+    };
     let mut frames = [Frame::blank(); FRAMES];
-    match verdict.recur {
-        Some(found) => steps_round(found, h, guide, &mut frames, most),
-        None => Ok(None),
-    }
+    steps_round(found, h, guide, &mut frames, most)
 }
 
 pub fn tell_cycle<B: Hierarchy>(
@@ -54,7 +53,7 @@ pub fn tell_cycle<B: Hierarchy>(
     tell_made(
         rt,
         name,
-        cycle_length(h, guide, 100000),
+        cycle_length(h, guide, 100_000),
         |length| match length {
             Some(length) => println!(rt; "{name}: one cycle of {length} flat states"),
             None => println!(rt; "{name}: no short cycle"),

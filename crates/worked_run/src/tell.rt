@@ -15,11 +15,13 @@ pub struct Watched {
     pub monitor: Monitor,
 }
 
+// Two programs have this function: a crate for it would be no plainer.
 fn yes_or_no(answer: bool) -> &'static str {
     if answer { "yes" } else { "no" }
 }
 
-// What is judged, and what the judge says of it.
+// What is judged, and what the judge says of it. What prints and what is lent go beside the name here and below: a value for
+// the three would be made anew for each line.
 pub fn tell<B: Hierarchy>(
     rt: &HostRuntime,
     name: &str,
@@ -44,15 +46,17 @@ fn tell_judgment<B: Hierarchy>(
             let recur = yes_or_no(verdict.recur.is_some());
             println!(rt; "reach {reach}, recur {recur}")
         }
-        Err(refusal) => {
-            let number = refusal.number();
-            println!(rt; "refused {number}")
-        }
+        Err(refusal) => tell_refusal(rt, refusal),
     }
 }
 
+fn tell_refusal(rt: &HostRuntime, refusal: Refusal) -> io::Result<()> {
+    let number = refusal.number();
+    println!(rt; "refused {number}")
+}
+
 // What was made is told by a function; what could not be made, by its refusal.
-pub fn tell_made<T, F: FnOnce(T) -> io::Result<()> + Drop>(
+pub(crate) fn tell_made<T, F: FnOnce(T) -> io::Result<()> + Drop>(
     rt: &HostRuntime,
     name: &str,
     made: Result<T, Refusal>,
@@ -63,8 +67,8 @@ pub fn tell_made<T, F: FnOnce(T) -> io::Result<()> + Drop>(
     match made {
         Ok(made) => tell(made),
         Err(refusal) => {
-            let number = refusal.number();
-            println!(rt; "{name}: refused {number}")
+            print!(rt; "{name}: ")?;
+            tell_refusal(rt, refusal)
         }
     }
 }

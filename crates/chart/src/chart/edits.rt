@@ -47,6 +47,7 @@ impl Chart {
     }
 
     // Whether the edge is to be there is a `bool`, as it is for the sheet: both edits have one definition.
+    // The fields of an edit are parameters of their own here, as in the questions of a hierarchy.
     fn set_edge(&mut self, i: usize, p: usize, w: usize, there: bool) -> Result<(), Refusal>
         ensures answer { result ≡ (edit.set_edge_lem (sheet self.old) i p w there).answer }
         ensures after { sheet self.new ≡ (edit.set_edge_lem (sheet self.old) i p w there).sheet }

@@ -1,5 +1,5 @@
 // The edits of places: a node or a box more, a node made an exit, a node's look.
-ghost use Rattle.std.specs.Prelude.{◌≡◌, ◌<◌, true, false, length, is_ok, Some};
+ghost use Rattle.std.specs.Prelude.{◌≡◌, ◌<◌, true, false, not, nat_lt, [], ◌∷◌, length, is_ok, Some};
 ghost use Rattle.std.specs.Result.{result_err};
 ghost use Rattle.chart.specs.Charts.{sheet};
 ghost use Rattle.sheet.specs.Sheet.{at, spot, node?, exit?, look};
@@ -7,12 +7,16 @@ ghost use Rattle.sheet.specs.Laws.{later};
 ghost use Rattle.sheet.specs.Changes.{changed, with_place_lem, with_spot_lem};
 ghost use Rattle.sheet.specs.declared.Spot.TheVariants.{Node};
 ghost use Rattle.hierarchy.specs.Refusals.{first};
+ghost use Rattle.hierarchy.specs.declared.refusal.Refusal.TheVariants.{NoStructure, Full};
 ghost use Rattle.sheet.specs.Edits as edit;
 
 use crate::chart::Chart;
 use crate::row::PLACES;
 use hierarchy::Refusal;
 use sheet::Spot;
+
+// The bits of a look that are reserved.
+const RESERVED: u8 = 0x70;
 
 impl Chart {
     // Adds a node of a look to structure `i`, and answers its number.
@@ -87,14 +91,10 @@ impl Chart {
     fn check_node(&self, i: usize, look: u8) -> Result<(), Refusal>
         ensures { result_err result ≡ first (edit.node_refusals (sheet self.now) i look) }
     {
-        if look & 0x70 != 0 {
+        if look & RESERVED != 0 {
             return Err(Refusal::ReservedLookBit);
         }
-        let row = self.find_row(i).ok_or(Refusal::NoStructure)?;
-        if row.size() >= PLACES {
-            return Err(Refusal::Full);
-        }
-        Ok(())
+        self.check_room(i)
     }
 
     fn check_box(&self, i: usize, inner: usize) -> Result<(), Refusal>
@@ -106,6 +106,13 @@ impl Chart {
         if inner >= self.structures() {
             return Err(Refusal::NoStructure);
         }
+        self.check_room(i)
+    }
+
+    // Whether structure `i` is there and has room for one place more.
+    fn check_room(&self, i: usize) -> Result<(), Refusal>
+        ensures { result_err result ≡ first ((not (nat_lt i (length (sheet self.now))), NoStructure) ∷ (not (nat_lt (length (at (sheet self.now) i).places) 16), Full) ∷ []) }
+    {
         let row = self.find_row(i).ok_or(Refusal::NoStructure)?;
         if row.size() >= PLACES {
             return Err(Refusal::Full);
@@ -127,7 +134,7 @@ impl Chart {
     fn check_look(&self, i: usize, p: usize, look: u8) -> Result<(), Refusal>
         ensures { result_err result ≡ first (edit.look_refusals (sheet self.now) i p look) }
     {
-        if look & 0x70 != 0 {
+        if look & RESERVED != 0 {
             return Err(Refusal::ReservedLookBit);
         }
         let row = self.find_row(i).ok_or(Refusal::NoStructure)?;

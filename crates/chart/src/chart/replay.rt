@@ -27,6 +27,7 @@ impl Chart {
     }
 
     // Makes all edits of a list, in order; one that is refused alters nothing.
+    // Chart and monitor each have this loop: a trait for it would be longer than both.
     pub fn replay(&mut self, edits: &[Edit])
         ensures { sheet self.new ≡ replayed (sheet self.old) edits.now }
     {

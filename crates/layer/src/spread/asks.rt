@@ -6,6 +6,9 @@ ghost use Rattle.layer.specs.Spreads.{spread_of, pile_of};
 use super::Spread;
 use hierarchy::{Hierarchy, Look, Place, Size};
 
+// How many structures and places a hierarchy has at most.
+const LARGEST: usize = 1024;
+
 impl<'a, B: Hierarchy> Spread<'a, B> {
     // The size of the pile of these monitors.
     pub(crate) fn size(&self) -> Option<Size>
@@ -115,7 +118,7 @@ fn size_above(below: Size, width: usize) -> Option<Size>
 {
     let structures = below.structures * width;
     let places = below.places * width;
-    if structures > 1024 || places > 1024 {
+    if structures > LARGEST || places > LARGEST {
         return None;
     }
     Some(Size { structures, places })

@@ -11,6 +11,7 @@ use crate::steps::Walk;
 use hierarchy::{Hierarchy, Place};
 
 // The structure behind the boxes at which the frames stand; behind a place that is no box it is structure 0.
+// Not `locate`: a state is shown whatever the frames hold, and behind what is no box it goes on in structure 0.
 fn structure_behind<B: Hierarchy>(h: &B, frames: &[Frame]) -> usize
     ensures { result ≡ structure_behind_lem (B.Hierarchy.meaning h.now) 0 frames.now }
 {
@@ -25,8 +26,8 @@ fn structure_behind<B: Hierarchy>(h: &B, frames: &[Frame]) -> usize
 }
 
 impl Walk {
-    // The frames in which the walk's outer levels are.
-    fn outer<'a>(&self, frames: &'a [Frame]) -> &'a [Frame]
+    // The frames in which the walk's outer levels are: each stands at a box of the shown state, the outermost first.
+    pub fn outer<'a>(&self, frames: &'a [Frame]) -> &'a [Frame]
         ensures { result.now ≡ outer_frames self.now frames.now }
     {
         let depth = self.stand.map_or(0, |stand| stand.depth);
@@ -51,10 +52,8 @@ impl Walk {
     pub fn node<B: Hierarchy>(&self, h: &B) -> usize
         ensures { (fs : List Frame) → result ≡ last_node (state_shown (B.Hierarchy.meaning h.now) self.now fs) }
     {
-        match self.stand {
-            Some(stand) => stand.last.place,
-            None => h.entry(0),
-        }
+        self.stand
+            .map_or_else(|| h.entry(0), |stand| stand.last.place)
     }
 
     // Whether it is marked.

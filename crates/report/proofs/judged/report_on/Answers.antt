@@ -10,14 +10,14 @@ pub push_head-requires : goal.push_head-requires
 push_head-requires g c =
     let m = g.B.Hierarchy.meaning c.args.h.now in
     let L = g.B.Hierarchy.lawful c.args.h.now in
-    let size = (sized_lacks m _ _ c.in_ok-structures.ensures).1 in
+    let size = (sized_lacks m _ _ c.in_ok-size.ensures).1 in
     head_room m L c.requires.fits c.requires.few _ _ (ap (λ (s : Size). s.structures) size) (ap (λ (s : Size). s.places) size) c.new-text.ensures c.in_ok-reach.field-0.reach c.is_some.result
 
 pub push_states-requires-clause-room : goal.push_states-requires-clause-room
 push_states-requires-clause-room g c =
     let m = g.B.Hierarchy.meaning c.args.h.now in
     let L = g.B.Hierarchy.lawful c.args.h.now in
-    let size = (sized_lacks m _ _ c.in_ok-structures.ensures).1 in
+    let size = (sized_lacks m _ _ c.in_ok-size.ensures).1 in
     let told = c.in_ok-reach.ensures in
     states_room m L c.requires.fits c.requires.few _ _ (ap (λ (s : Size). s.structures) size) (ap (λ (s : Size). s.places) size) c.new-text.ensures c.in_ok-reach.field-0 told.reach told.recur c.is_some.result c.is_some.ensures c.push_head.ensures
     c.judge.new.guide told.guides c.in-Some.found c.in-Some.is
@@ -26,7 +26,7 @@ pub returns-clause-printed : goal.returns-clause-printed
 returns-clause-printed g c =
     let m = g.B.Hierarchy.meaning c.args.h.now in
     let L = g.B.Hierarchy.lawful c.args.h.now in
-    let size = (sized_lacks m _ _ c.in_ok-structures.ensures).1 in
+    let size = (sized_lacks m _ _ c.in_ok-size.ensures).1 in
     let told = c.in_ok-reach.ensures in
     let v = c.in_ok-reach.field-0 in
     let text : Report m c.match-recur.text.bytes = elim c.match-recur.branch [

@@ -7,9 +7,6 @@ use Rattle.walk.specs.Standing.{located}
 use Rattle.walk.proofs.Safe.{locate_step, no_box_told}
 use Rattle.walk.proofs.stand.locate.Goals as goal
 
-pub loop-f-init : goal.loop-f-init
-loop-f-init g c = refl
-
 pub loop-f-preserved : goal.loop-f-preserved
 loop-f-preserved g c = c.loop-f.invariant ∙ locate_step (g.B.Hierarchy.meaning c.args.h.now) _ _ _ blank_frame (box c.in-Box.inner) c.loop-f-test.true (told_box _ _ c.in-Box.ensures)
 

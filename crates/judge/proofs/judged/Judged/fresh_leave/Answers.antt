@@ -4,8 +4,8 @@ use Rattle.guide.specs.Layout.{look}
 use Rattle.judge.proofs.Fresh.{spent_some, spent_all}
 use Rattle.judge.proofs.judged.Judged.fresh_leave.Goals as goal
 
-pub returns-in-Some : goal.returns-in-Some
-returns-in-Some g c =
+pub returns-in-loop-by : goal.returns-in-loop-by
+returns-in-loop-by g c =
     let m = g.B.Hierarchy.meaning c.args.self.now.h.now in
     let L = g.B.Hierarchy.lawful c.args.self.now.h.now in
     spent_some m L c.args.site c.args.v c.args.inner c.requires.named (look c.args.guide.now c.args.site.places) c.requires.behind c.loop-by.by c.in-Some.w _ c.passed.ensures c.if-passed.true c.in-Some.ensures

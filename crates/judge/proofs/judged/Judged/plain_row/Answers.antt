@@ -1,7 +1,5 @@
 -- A search from the entry makes the plain row right.
-use Rattle.std.proofs.Common.{◌≡◌, ℕ, ◌<◌, sym, ap, ◌∙◌, arith}
-use Rattle.hierarchy.specs.Meaning.{Meaning, Lawful}
-use Rattle.theory.proofs.Paths.{node_not_absent}
+use Rattle.std.proofs.Common.{sym, ap, ◌∙◌, arith}
 use Rattle.guide.specs.Layout.{look}
 use Rattle.guide.specs.declared.Lane.TheVariants.{Plain}
 use Rattle.judge.specs.Tables.{Others}
@@ -10,9 +8,6 @@ use Rattle.judge.specs.Seeds.{plain_site}
 use Rattle.judge.proofs.Grow.{others_trans}
 use Rattle.judge.proofs.Fills.{plain_filled, plain_start, plain_fit, seeded_orderly, seed_of, from_others}
 use Rattle.judge.proofs.judged.Judged.plain_row.Goals as goal
-
-entry_inside : (m : Meaning) → Lawful m → (i n P : ℕ) → i < m.structures → n ≡ m.entry i → P ≡ m.places → n < P
-entry_inside m L i n P h e p = omega (arith, (L.within i (m.entry i) (node_not_absent (L.entered i h))).1)
 
 pub spread-requires-clause-orderly : goal.spread-requires-clause-orderly
 spread-requires-clause-orderly g c =

@@ -1,16 +1,16 @@
 -- Each visit reaches or leaves one place more.
 use Rattle.std.proofs.Common.{◌≡◌, ℕ, ◌<◌, refl, arith}
 use Rattle.hierarchy.specs.Meaning.{Meaning, Lawful}
-use Rattle.theory.proofs.Paths.{node_not_absent}
 use Rattle.guide.specs.Layout.{Table, look}
 use Rattle.guide.specs.declared.Lane.TheVariants.{Plain, Marked}
 use Rattle.judge.specs.Tables.{Others, Kept}
 use Rattle.judge.proofs.Rings.{others_keep, kept_trans, behind_keep}
 use Rattle.judge.proofs.Visits.{nested_start}
 use Rattle.judge.proofs.judged.Judged.seek.Goals as goal
+use Rattle.hierarchy.proofs.Beyond.{node_present}
 
 entry_inside : (m : Meaning) → Lawful m → (i n P : ℕ) → i < m.structures → n ≡ m.entry i → P ≡ m.places → n < P
-entry_inside m L i n P h e p = omega (arith, (L.within i (m.entry i) (node_not_absent (L.entered i h))).1)
+entry_inside m L i n P h e p = omega (arith, (L.within i (m.entry i) (node_present _ (L.entered i h))).1)
 
 started : (S : ℕ) (T T₁ T₂ T₃ T₄ : Table) → Others T T₁ Marked S → Others T₁ T₂ Plain S → Others T₂ T₃ Marked S → Kept S T₃ T₄ → Kept S T T₄
 started S T T₁ T₂ T₃ T₄ f g h k =

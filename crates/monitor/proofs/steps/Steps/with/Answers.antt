@@ -18,14 +18,14 @@ loop-letter-preserved c =
     let r = c.args.r in
     let n = c.loop-letter.letter in
     let before = c.args.self.cells in
-    let cells = c.loop-letter.cells in
+    let cells = c.loop-letter.self.cells in
     let inv = c.loop-letter.invariant in
     elim c.if-letter-care.branch [
       | then-letter-care w ↦
-          rw w.cells-is
+          rw (w.self-is, w.cell.ensures)
           ((length-set cells (cell q n r) true ∙ inv.0), added_written q care value r before cells n inv.0 c.requires.0 c.loop-letter-test.true c.requires.1 w.if-letter-care.true inv.1)
       | else-letter-care w ↦
-          rw w.cells-is (inv.0, added_skipped q care value r before cells n w.if-letter-care.false inv.1)
+          rw w.self-is (inv.0, added_skipped q care value r before cells n w.if-letter-care.false inv.1)
     ]
 
 pub returns : goal.returns

@@ -5,4 +5,4 @@ use Rattle.monitor.proofs.steps.Steps.with.Given as goal
 
 abbrev pub invariant-loop-letter : goal.invariant-loop-letter
 invariant-loop-letter l =
-    (length l.cells ≡ 256) × Added l.q l.care l.value l.r l.initial.cells l.letter l.cells
+    (length l.self.cells ≡ 256) × Added l.q l.care l.value l.r l.initial.self.cells l.letter l.self.cells
