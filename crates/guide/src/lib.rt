@@ -2,7 +2,7 @@
 // Records are plain numbers: memory in any state is a guide, though perhaps one that leads nowhere.
 #![tactic(auto)]
 
-ghost use Rattle.std.specs.Prelude.{◌≡◌, ◌+◌, ◌*◌, slice_index_or};
+ghost use Rattle.std.specs.Prelude.{◌≡◌, ◌+◌, ◌*◌, slice_index_or, MatchOption};
 ghost use Rattle.guide.specs.Layout.{aim_of_lem, blank, blank_record_lem, lane_of, look};
 
 // What a search tree holds of one place. A place that is not reached has a blank one, which is read like any other, since
@@ -51,8 +51,8 @@ impl GuideRecord {
     }
 
     // The record's entry in one of the trees.
-    pub fn entry(self, lane: Lane) -> Entry
-        ensures { result ≡ lane_of lane self }
+    pub fn entry(&self, lane: Lane) -> Entry
+        ensures { result ≡ lane_of lane self.now }
     {
         match lane {
             Lane::Plain => self.plain,
@@ -71,15 +71,14 @@ pub enum Lane {
     Up,
 }
 
-// The record at the place of a row; past the end of memory a blank one.
+// The record at the place of a row; none past the end of memory. The memory from the row's start on is looked up first, so
+// that a loop over places does so once, and then asks of each place only whether there is a record more.
 // The lent memory is one slice, and says nowhere how long its rows are: so `places` goes beside it.
-fn record_at(guide: &[GuideRecord], places: usize, row: usize, place: usize) -> GuideRecord
-    ensures { result ≡ slice_index_or guide.now (row * places + place) blank_record_lem }
+fn record_at(guide: &[GuideRecord], places: usize, row: usize, place: usize) -> Option<&GuideRecord>
+    ensures { MatchOption result (slice_index_or guide.now (row * places + place) blank_record_lem ≡ blank_record_lem) (λ r. r.now ≡ slice_index_or guide.now (row * places + place) blank_record_lem) }
 {
-    row.checked_mul(places)
-        .and_then(|start| start.checked_add(place))
-        .and_then(|at| guide.get(at).copied())
-        .unwrap_or_default()
+    let start = row.checked_mul(places)?;
+    guide.get(start..)?.get(place)
 }
 
 // What the trees hold of a place, where each row has so many places; past the end of a row or of memory a blank entry.
@@ -87,10 +86,12 @@ fn record_at(guide: &[GuideRecord], places: usize, row: usize, place: usize) -> 
 pub fn entry_at(guide: &[GuideRecord], places: usize, lane: Lane, row: usize, place: usize) -> Entry
     ensures { result ≡ look guide.now places lane row place }
 {
-    if place < places {
-        record_at(guide, places, row, place).entry(lane)
-    } else {
-        Entry::blank()
+    if place >= places {
+        return Entry::blank();
+    }
+    match record_at(guide, places, row, place) {
+        Some(record) => record.entry(lane),
+        None => Entry::blank(),
     }
 }
 
@@ -99,5 +100,5 @@ pub fn entry_at(guide: &[GuideRecord], places: usize, lane: Lane, row: usize, pl
 pub fn aim_at(guide: &[GuideRecord], places: usize, structure: usize) -> usize
     ensures { result ≡ aim_of_lem guide.now places structure }
 {
-    record_at(guide, places, structure, 0).aim
+    record_at(guide, places, structure, 0).map_or(0, |record| record.aim)
 }

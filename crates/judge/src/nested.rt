@@ -28,12 +28,15 @@ pub enum Visit {
 impl<'a, B: Hierarchy> Judged<'a, B> {
     // A place that is not reached and that the hops lead to.
     fn fresh(&self, guide: &[GuideRecord], site: Site, hops: Leads) -> Option<usize>
-        requires { site.places ≡ (B.Hierarchy.meaning self.now.h.now).places }
+        requires stands { Stands guide.now site.places site.row }
+        requires places { site.places ≡ (B.Hierarchy.meaning self.now.h.now).places }
         ensures { Fresh (leads (B.Hierarchy.meaning self.now.h.now) site.structure hops) (look guide.now site.places) site result }
     {
-        (0..site.places).find(|&w| {
-            !site.get(guide, w).reached && hops.lead_to(self.h, site.structure, w)
-        })
+        (0..site.places).find(
+            |&w|
+                requires { (Stands guide.now site.places site.row) × (w < site.places) }
+            { !site.get(guide, w).reached && hops.lead_to(self.h, site.structure, w) },
+        )
     }
 
     // A place that is not reached and that `v` leads to, by an exit that the box can be passed by.

@@ -9,8 +9,8 @@ ghost use Rattle.judge.specs.Follows.{entry_of, counts, met, passes, Expands};
 ghost use Rattle.judge.specs.Search.{Open, Picked, NothingOpen, Turned, Spreads, Orderly, Closed};
 
 use crate::judged::Judged;
-use crate::table::{Site, child};
-use guide::{Entry, GuideRecord, Lane, entry_at};
+use crate::table::{Site, child, get};
+use guide::{Entry, GuideRecord, Lane};
 use hierarchy::{Hierarchy, Place};
 
 // Which hops a search follows.
@@ -56,13 +56,15 @@ impl Leads {
 
 impl<'a, B: Hierarchy> Judged<'a, B> {
     // Reaches the places that the hops lead to. Those that are reached already need no question.
+    #[inline(always)]
     fn follow(&self, guide: &mut [GuideRecord], site: Site, hops: Leads, cell: Entry)
         requires stands { Stands guide.old site.places site.row }
         requires places { site.places ≡ (B.Hierarchy.meaning self.now.h.now).places }
         ensures { Adds site cell (leads (B.Hierarchy.meaning self.now.h.now) site.structure hops) (look guide.old site.places) (look guide.new site.places) }
     {
+        let h = self.h;
         for w in 0..site.places {
-            if !site.get(guide, w).reached && hops.lead_to(self.h, site.structure, w) {
+            if !site.get(guide, w).reached && hops.lead_to(h, site.structure, w) {
                 site.put(guide, w, cell);
             }
         }
@@ -70,13 +72,15 @@ impl<'a, B: Hierarchy> Judged<'a, B> {
 
     // Whether the inner entry reaches the exit, or reaches it after a mark, or at one.
     fn met(&self, guide: &[GuideRecord], site: Site, along: Along, inner: usize, by: usize) -> bool
+        requires stands { Stands guide.now site.places inner }
+        requires inside { by < site.places }
         ensures { result ≡ met (B.Hierarchy.meaning self.now.h.now) (look guide.now site.places) along inner by }
     {
-        let plain = entry_at(guide, site.places, Lane::Plain, inner, by).reached;
+        let plain = get(guide, site.places, Lane::Plain, inner, by).reached;
         match along {
             Along::All => plain,
             Along::Marks => {
-                entry_at(guide, site.places, Lane::Marked, inner, by).reached
+                get(guide, site.places, Lane::Marked, inner, by).reached
                     || (plain && self.h.look(inner, by).mark)
             }
         }
@@ -91,12 +95,15 @@ impl<'a, B: Hierarchy> Judged<'a, B> {
         inner: usize,
         by: usize,
     ) -> bool
+        requires stands { Stands guide.now site.places inner }
+        requires inside { by < site.places }
         ensures { result ≡ passes (B.Hierarchy.meaning self.now.h.now) (look guide.now site.places) along inner by }
     {
         self.met(guide, site, along, inner, by) && self.h.is_exit(inner, by)
     }
 
     // Leaves the box `v` by each exit that it can be passed by.
+    #[inline(always)]
     fn expand_box(
         &self,
         guide: &mut [GuideRecord],
@@ -133,6 +140,7 @@ impl<'a, B: Hierarchy> Judged<'a, B> {
     }
 
     // Follows the hops of `v` that count. What they lead to is reached, at the depth given.
+    #[inline(always)]
     pub(crate) fn expand(
         &self,
         guide: &mut [GuideRecord],
@@ -174,12 +182,17 @@ impl<'a, B: Hierarchy> Judged<'a, B> {
 
 // A place that is reached and whose hops are still to be followed.
 fn pick(guide: &[GuideRecord], site: Site) -> Option<usize>
+    requires stands { Stands guide.now site.places site.row }
     ensures { Picked (look guide.now site.places) site result }
 {
-    (0..site.places).find(|&u| {
-        let found = site.get(guide, u);
-        found.reached && !found.done
-    })
+    (0..site.places).find(
+        |&u|
+            requires { (Stands guide.now site.places site.row) × (u < site.places) }
+        {
+            let found = site.get(guide, u);
+            found.reached && !found.done
+        },
+    )
 }
 
 impl<'a, B: Hierarchy> Judged<'a, B> {
@@ -192,8 +205,19 @@ impl<'a, B: Hierarchy> Judged<'a, B> {
         ensures orderly { Orderly (B.Hierarchy.meaning self.now.h.now) site (look guide.new site.places) }
         ensures done { NothingOpen (look guide.new site.places) site }
     {
+        // its own copy stays in registers, where what is lent is read again after each write of the guide
+        let Judged {
+            h,
+            structures,
+            places,
+        } = *self;
+        let judged = Judged {
+            h,
+            structures,
+            places,
+        };
         while let Some(v) = pick(guide, site) {
-            self.turn(guide, site, v);
+            judged.turn(guide, site, v);
         }
     }
 }

@@ -6,7 +6,7 @@ ghost use Rattle.judge.specs.Tables.{Stands, Position, Put, Others};
 ghost use Rattle.judge.specs.Ring.{Aimed};
 ghost use Rattle.judge.specs.Spread.{here, finished, child as child_entry};
 
-use guide::{Entry, GuideRecord, Lane, entry_at};
+use guide::{Entry, GuideRecord, Lane};
 
 // Where a search takes place: the structure, and the tree and the row that it fills.
 // It is written out at each use, and made by no function: a proof then sees the site's fields.
@@ -18,13 +18,29 @@ pub struct Site {
     pub row: usize,
 }
 
-// Where an entry is written. Reading needs no such place: past the end of memory it gives a blank entry.
+// Where an entry of a row that stands in memory is.
 fn position(guide: &[GuideRecord], places: usize, row: usize, place: usize) -> usize
     requires stands { Stands guide.now places row }
     requires inside { place < places }
     ensures { Position guide.now places row place result }
 {
     row * places + place
+}
+
+// An entry of a row that stands in memory: nothing is tested, since searches read more than they do anything else.
+#[tactic(auto, unfolding(guide::specs::Layout::look))]
+pub(crate) fn get(
+    guide: &[GuideRecord],
+    places: usize,
+    lane: Lane,
+    row: usize,
+    place: usize,
+) -> Entry
+    requires stands { Stands guide.now places row }
+    requires inside { place < places }
+    ensures { result ≡ look guide.now places lane row place }
+{
+    guide[position(guide, places, row, place)].entry(lane)
 }
 
 // Writes an entry of one of the trees.
@@ -73,11 +89,13 @@ pub(crate) fn set_aim(guide: &mut [GuideRecord], places: usize, row: usize, aim:
 }
 
 impl Site {
-    // The site's entry at a place.
+    // The site's entry at a place of its row.
     pub(crate) fn get(self, guide: &[GuideRecord], place: usize) -> Entry
+        requires stands { Stands guide.now self.places self.row }
+        requires inside { place < self.places }
         ensures { result ≡ here (look guide.now self.places) self place }
     {
-        entry_at(guide, self.places, self.lane, self.row, place)
+        get(guide, self.places, self.lane, self.row, place)
     }
 
     // Writes the site's entry at a place.

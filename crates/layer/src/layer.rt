@@ -1,20 +1,19 @@
 // A monitor laid over a hierarchy is again a hierarchy: the product of both.
 // The monitor stays as it was when it was laid.
-ghost use Rattle.std.specs.Prelude.{◌≡◌};
+ghost use Rattle.std.specs.Prelude.{◌≡◌, not};
 ghost use Rattle.monitor.specs.Product.{product};
 ghost use Rattle.monitor.specs.Tables.{automaton_of};
 ghost use Rattle.layer.specs.Lawful.{layer_lawful};
-ghost use Rattle.layer.specs.Piles.{pile};
 
-use crate::pile::Pile;
+use crate::spread::size_above;
 use hierarchy::{Hierarchy, Look, Place, Size};
 use monitor::Monitor;
-use std::slice;
 
-// It answers as the pile of its one monitor does. Each layer at least doubles both sizes, so that at most ten stand on
-// one another before they are too large. Over k layers a size, place, entry or exit costs at most k + 1 questions to the
-// hierarchy at the bottom, a look about k * k / 2, and an edge or a leave that is there about k * k * k / 6. A pile asks
-// less.
+// It answers by itself, and not as the pile of its one monitor: layers nest in types, so that no question needs to find
+// out what lies below. Exits, edges and leaves are asked below before the size is, so that most answers of no cost one
+// question below. Each layer at least doubles both sizes, so that at most ten stand on one another before they are too
+// large. Over k layers a size, place, entry or exit costs at most k + 1 questions to the hierarchy at the bottom, a look
+// about k * k / 2, and an edge or a leave that is there about k * k * k / 6. A pile asks less.
 #[derive_where(Clone, Copy)]
 pub struct Layer<'a, B> {
     below: &'a B,
@@ -33,10 +32,11 @@ impl<'a, B: Hierarchy> Layer<'a, B> {
         }
     }
 
-    fn pile(&self) -> Pile<'_, B>
-        ensures { pile result.monitors.now (B.Hierarchy.meaning result.base.now) ≡ product (B.Hierarchy.meaning self.now.below.now) (automaton_of self.now.monitor) }
+    // Whether the layer is not too large.
+    fn fits(&self) -> bool
+        ensures { result ≡ not (product (B.Hierarchy.meaning self.now.below.now) (automaton_of self.now.monitor)).large }
     {
-        Pile::new(self.below, slice::from_ref(&self.monitor))
+        self.size().is_some()
     }
 }
 
@@ -46,30 +46,66 @@ impl<'a, B: Hierarchy> Hierarchy for Layer<'a, B> {
     ghost lawful = { λ x. layer_lawful x.monitor (B.Hierarchy.lawful x.below.now) };
 
     fn size(&self) -> Option<Size> {
-        self.pile().size()
+        size_above(self.below.size()?, self.monitor.width())
     }
 
     fn place(&self, i: usize, p: usize) -> Place {
-        self.pile().place(i, p)
+        if !self.fits() {
+            return Place::Absent;
+        }
+        let f = self.monitor.width();
+        match self.below.place(i / f, p / f) {
+            Place::Box(j) => Place::Box(j * f + p % f),
+            other => other,
+        }
     }
 
     fn entry(&self, i: usize) -> usize {
-        self.pile().entry(i)
+        let Some(size) = self.size() else {
+            return 0;
+        };
+        if i >= size.structures {
+            return 0;
+        }
+        let f = self.monitor.width();
+        self.below.entry(i / f) * f + i % f
     }
 
     fn is_exit(&self, i: usize, p: usize) -> bool {
-        self.pile().is_exit(i, p)
+        let f = self.monitor.width();
+        self.below.is_exit(i / f, p / f) && self.fits()
     }
 
     fn look(&self, i: usize, p: usize) -> Look {
-        self.pile().look(i, p)
+        if !self.fits() {
+            return Look::default();
+        }
+        let f = self.monitor.width();
+        let Look { letter, .. } = self.below.look(i / f, p / f);
+        let mark = self.monitor.marks(p) && self.below.place(i / f, p / f) == Place::Node;
+        Look { letter, mark }
     }
 
     fn has_edge(&self, i: usize, p: usize, w: usize) -> bool {
-        self.pile().has_edge(i, p, w)
+        let f = self.monitor.width();
+        if !self.below.has_edge(i / f, p / f, w / f) || !self.fits() {
+            return false;
+        }
+        let left = self.below.look(i / f, p / f);
+        self.monitor.moves(left, p, w)
     }
 
     fn has_leave(&self, i: usize, b: usize, e: usize, w: usize) -> bool {
-        self.pile().has_leave(i, b, e, w)
+        let f = self.monitor.width();
+        if !self.below.has_leave(i / f, b / f, e / f, w / f) || !self.fits() {
+            return false;
+        }
+        match self.below.place(i / f, b / f) {
+            Place::Box(j) => {
+                let left = self.below.look(j, e / f);
+                self.monitor.moves(left, e, w)
+            }
+            _ => false,
+        }
     }
 }

@@ -10,10 +10,10 @@ use crate::spread::Spread;
 use hierarchy::{Hierarchy, Look, Place, Size};
 use monitor::Monitor;
 
-// Exits, edges and leaves are asked before the size is, so that most answers of no cost one question to the hierarchy at
-// the bottom. Any other answer asks the size once. A place, an entry or an exit over k monitors costs k steps and one
-// question more at the bottom, a look at most twice that. An edge or a leave that is there is read by each monitor, which
-// costs about k * k steps and at most 3 * k questions at the bottom.
+// Exits, edges and leaves are asked at the bottom before the size is, so that a no there costs one question. Any other answer
+// asks the size once. A place, an entry or an exit over k monitors costs k steps and one question more at the bottom, a look
+// at most twice that. An edge or a leave that the bottom has, in a pile that fits, is read by one monitor after the other up
+// to the first that refuses it, which costs about k * k steps and at most 3 * k + 1 questions at the bottom.
 #[derive_where(Clone, Copy)]
 pub struct Pile<'a, B> {
     base: &'a B,
@@ -88,11 +88,11 @@ impl<'a, B: Hierarchy> Hierarchy for Pile<'a, B> {
 
     fn has_edge(&self, i: usize, p: usize, w: usize) -> bool {
         self.spread()
-            .is_some_and(|spread| spread.has_edge(i, p, w) && spread.fits())
+            .is_some_and(|spread| spread.has_edge(&spread, i, p, w))
     }
 
     fn has_leave(&self, i: usize, b: usize, e: usize, w: usize) -> bool {
         self.spread()
-            .is_some_and(|spread| spread.has_leave(i, b, e, w) && spread.fits())
+            .is_some_and(|spread| spread.has_leave(&spread, i, b, e, w))
     }
 }

@@ -8,6 +8,8 @@ use monitor::Monitor;
 
 mod asks;
 
+pub(crate) use asks::size_above;
+
 // How many monitors a pile has at most that is not too large: each at least doubles the sizes.
 const MOST: usize = 10;
 

@@ -36,25 +36,17 @@ fn push_place(text: &mut ArrayString<LINE>, nth: usize, offset: usize)
     text.push_str("\n");
 }
 
-// Puts such a line to the front of the output, if that has the bytes that any line may need.
-fn put_line(text: &ArrayString<LINE>, output: &mut [u8]) -> Result<usize, Refusal>
-    ensures refused { result_err result ≡ line_refusal (length output.old) }
-    ensures given { Gives text.now.bytes output.old output.new result }
-{
-    if output.len() < LINE {
-        return Err(Refusal::TooLittleMemory);
-    }
-    Ok(put_front(text, output))
-}
-
 // Writes `refused N` and a line feed to the front of the output, which needs 80 bytes.
 pub fn refusal_text(refusal: Refusal, output: &mut [u8]) -> Result<usize, Refusal>
     ensures refused { result_err result ≡ line_refusal (length output.old) }
     ensures given { Gives (refusal_line refusal) output.old output.new result }
 {
+    if output.len() < LINE {
+        return Err(Refusal::TooLittleMemory);
+    }
     let mut text = refused(refusal);
     text.push_str("\n");
-    put_line(&text, output)
+    Ok(put_front(&text, output))
 }
 
 // Writes `refused N record R byte B` and a line feed to the front of the output, which needs 80 bytes.
@@ -63,7 +55,10 @@ pub fn fault_text(fault: Fault, output: &mut [u8]) -> Result<usize, Refusal>
     ensures refused { result_err result ≡ line_refusal (length output.old) }
     ensures given { Gives (fault_line fault) output.old output.new result }
 {
+    if output.len() < LINE {
+        return Err(Refusal::TooLittleMemory);
+    }
     let mut text = refused(fault.refusal);
     push_place(&mut text, fault.record, fault.offset);
-    put_line(&text, output)
+    Ok(put_front(&text, output))
 }

@@ -12,11 +12,7 @@ use Rattle.walk.specs.declared.steps.Walk.{Walk}
 use Rattle.walk.specs.Walks.{inmost, shown}
 use Rattle.walk.specs.Standing.{graft}
 use Rattle.walk.specs.Steps.{shown_at, state_shown}
-use Rattle.walk.specs.Shown.{boxes_of, box_in, mark_of, structure_behind_lem, outer_at, outer_frames}
-
-abbrev pub box_places : List Frame → List ℕ
-box_places [] = []
-box_places (f ∷ fs) = f.place ∷ box_places fs
+use Rattle.walk.specs.Shown.{boxes_of, box_places, box_in, mark_of, structure_behind_lem, outer_at, outer_frames}
 
 graft_boxes : (fs : List Frame) (f : Frame) → boxes_of (shown (graft fs (inmost f))) ≡ box_places fs
 graft_boxes [] f = refl

@@ -11,6 +11,11 @@ abbrev pub boxes_of : State → List ℕ
 boxes_of (at n) = []
 boxes_of (within b s) = b ∷ boxes_of s
 
+-- the places at which frames stand
+abbrev pub box_places : List Frame → List ℕ
+box_places [] = []
+box_places (f ∷ fs) = f.place ∷ box_places fs
+
 abbrev pub box_in : List ℕ → ℕ → Option ℕ
 box_in [] k = None
 box_in (b ∷ bs) zero = Some b

@@ -26,7 +26,7 @@ impl Hierarchy for Wheel {
             } else {
                 Place::Box(i + 1)
             }
-        } else if self.is_entry(i, p) || self.is_end(i, p) {
+        } else if self.is_entry(i, p) | self.is_end(i, p) {
             Place::Node
         } else {
             Place::Absent
@@ -45,7 +45,7 @@ impl Hierarchy for Wheel {
         let mark = self.is_outer_end(i, p);
         let letter = if mark {
             1
-        } else if self.is_item(i, p) && self.is_last(i) {
+        } else if self.is_item(i, p) & self.is_last(i) {
             2
         } else {
             0
@@ -54,12 +54,12 @@ impl Hierarchy for Wheel {
     }
 
     fn has_edge(&self, i: usize, p: usize, w: usize) -> bool {
-        !self.is_box(i, p) && self.leads(i, p, w)
+        !self.is_box(i, p) & self.leads(i, p, w)
     }
 
     // A box is left by its inner end.
     fn has_leave(&self, i: usize, b: usize, e: usize, w: usize) -> bool {
-        self.is_box(i, b) && self.is_end(i + 1, e) && self.leads(i, b, w)
+        self.is_box(i, b) && self.is_end(i + 1, e) & self.leads(i, b, w)
     }
 }
 
@@ -69,26 +69,26 @@ impl Wheel {
     fn is_entry(&self, i: usize, p: usize) -> bool
         ensures { result ≡ is_entry_lem (sizes_of self.now) i p }
     {
-        i < self.levels() && p == 0
+        (i < self.levels()) & (p == 0)
     }
 
     fn is_item(&self, i: usize, p: usize) -> bool
         ensures { result ≡ is_item_lem (sizes_of self.now) i p }
     {
-        i < self.levels() && 0 < p && p <= self.level_size(i)
+        (i < self.levels()) & (0 < p) & (p <= self.level_size(i))
     }
 
     fn is_end(&self, i: usize, p: usize) -> bool
         ensures { result ≡ is_end_lem (sizes_of self.now) i p }
     {
-        i < self.levels() && p == self.level_size(i) + 1
+        (i < self.levels()) & (p == self.level_size(i) + 1)
     }
 
     // Whether this is the end of structure 0.
     fn is_outer_end(&self, i: usize, p: usize) -> bool
         ensures { result ≡ (i == 0 && is_end_lem (sizes_of self.now) i p) }
     {
-        i == 0 && self.is_end(i, p)
+        (i == 0) & self.is_end(i, p)
     }
 
     // Whether structure `i` is the last.
@@ -101,17 +101,17 @@ impl Wheel {
     fn is_box(&self, i: usize, p: usize) -> bool
         ensures { result ≡ is_box_lem (sizes_of self.now) i p }
     {
-        self.is_item(i, p) && !self.is_last(i)
+        self.is_item(i, p) & !self.is_last(i)
     }
 
     // Whether the place `p` of structure `i` leads to `w`: each leads to the next, and the end of structure 0 to 0.
     fn leads(&self, i: usize, p: usize, w: usize) -> bool
         ensures { result ≡ leads (sizes_of self.now) i p w }
     {
-        if self.is_entry(i, p) || self.is_item(i, p) {
+        if self.is_entry(i, p) | self.is_item(i, p) {
             return w == p + 1;
         }
-        self.is_outer_end(i, p) && w == 0
+        self.is_outer_end(i, p) & (w == 0)
     }
 
     // The largest size of a level.

@@ -17,13 +17,16 @@ fn edited(chart: Result<Chart, Refusal>, edit: Edit) -> Result<Chart, Refusal> {
     Ok(chart)
 }
 
-fn new() -> Result<Chart, Refusal> {
-    Ok(Chart::new())
+// One structure, with its entry only.
+fn begun() -> Result<Chart, Refusal> {
+    let mut chart = Chart::new();
+    chart.begin(1)?;
+    Ok(chart)
 }
 
 fn marked_entry() -> Result<Chart, Refusal> {
     edited(
-        new(),
+        begun(),
         Edit::Look {
             i: 0,
             p: 0,
@@ -71,8 +74,8 @@ fn tell_rings(rt: &HostRuntime, guide: &mut [GuideRecord]) -> io::Result<()> {
 }
 
 fn tell_refused(rt: &HostRuntime, guide: &mut [GuideRecord]) -> io::Result<()> {
-    let in_itself = edited(new(), Edit::Box { i: 0, inner: 0 });
-    let of_nothing = edited(new(), Edit::Box { i: 0, inner: 1 });
+    let in_itself = edited(begun(), Edit::Box { i: 0, inner: 0 });
+    let of_nothing = edited(begun(), Edit::Box { i: 0, inner: 1 });
     let one_more = edited(full(1), Edit::Node { i: 0, look: 0 });
     let twice = edited(turning_entry(), TURN);
     tell_chart(rt, "box in itself", in_itself, guide)?;
@@ -82,7 +85,7 @@ fn tell_refused(rt: &HostRuntime, guide: &mut [GuideRecord]) -> io::Result<()> {
 }
 
 pub fn tell_charts(rt: &HostRuntime, guide: &mut [GuideRecord]) -> io::Result<()> {
-    tell_chart(rt, "new chart", new(), guide)?;
+    tell_chart(rt, "new chart", Ok(Chart::new()), guide)?;
     tell_chart(rt, "entry marked", marked_entry(), guide)?;
     tell_chart(rt, "entry marked, turning", turning_entry(), guide)?;
     tell_rings(rt, guide)?;

@@ -1,5 +1,5 @@
 // What monitors spread out answer: the base's answer, or that of the monitor on top by what is answered below.
-ghost use Rattle.std.specs.Prelude.{◌≡◌, ◌*◌, ◌<◌, ◌≤◌, ◌||◌, not, if◌then◌else◌, None, nat_lt};
+ghost use Rattle.std.specs.Prelude.{◌≡◌, ◌*◌, ◌<◌, ◌≤◌, ◌&&◌, ◌||◌, not, if◌then◌else◌, None, nat_lt};
 ghost use Rattle.hierarchy.specs.Answers.{place_told, size_told, look_told, fits};
 ghost use Rattle.layer.specs.Spreads.{spread_of, pile_of};
 
@@ -84,24 +84,34 @@ impl<'a, B: Hierarchy> Spread<'a, B> {
         Look { letter, mark }
     }
 
-    pub(crate) fn has_edge(&self, i: usize, p: usize, w: usize) -> bool
-        ensures { result ≡ (spread_of B.Hierarchy.meaning self.now).edge i p w }
+    // Whether there is such an edge, and the pile that these monitors are part of is not too large. Its size is asked where
+    // the base has said yes, and no monitor yet: so that neither a no of the base nor too large a pile costs more.
+    pub(crate) fn has_edge(&self, whole: &Spread<'a, B>, i: usize, p: usize, w: usize) -> bool
+        ensures { result ≡ ((spread_of B.Hierarchy.meaning self.now).edge i p w && not (pile_of B.Hierarchy.meaning whole.now).large) }
     {
         let Some((top, below)) = self.split() else {
-            return self.base.has_edge(i, p, w);
+            return self.base.has_edge(i, p, w) && whole.fits();
         };
         let f = top.width();
-        below.has_edge(i / f, p / f, w / f) && top.moves(below.look(i / f, p / f), p, w)
+        below.has_edge(whole, i / f, p / f, w / f) && top.moves(below.look(i / f, p / f), p, w)
     }
 
-    pub(crate) fn has_leave(&self, i: usize, b: usize, e: usize, w: usize) -> bool
-        ensures { result ≡ (spread_of B.Hierarchy.meaning self.now).leave i b e w }
+    // The same of a leave.
+    pub(crate) fn has_leave(
+        &self,
+        whole: &Spread<'a, B>,
+        i: usize,
+        b: usize,
+        e: usize,
+        w: usize,
+    ) -> bool
+        ensures { result ≡ ((spread_of B.Hierarchy.meaning self.now).leave i b e w && not (pile_of B.Hierarchy.meaning whole.now).large) }
     {
         let Some((top, below)) = self.split() else {
-            return self.base.has_leave(i, b, e, w);
+            return self.base.has_leave(i, b, e, w) && whole.fits();
         };
         let f = top.width();
-        if !below.has_leave(i / f, b / f, e / f, w / f) {
+        if !below.has_leave(whole, i / f, b / f, e / f, w / f) {
             return false;
         }
         match below.place(i / f, b / f) {
@@ -112,7 +122,7 @@ impl<'a, B: Hierarchy> Spread<'a, B> {
 }
 
 // The sizes below, multiplied, unless one is then more than a hierarchy may have.
-fn size_above(below: Size, width: usize) -> Option<Size>
+pub(crate) fn size_above(below: Size, width: usize) -> Option<Size>
     requires { (below.structures ≤ 1024) × ((below.places ≤ 1024) × (width ≤ 8)) }
     ensures { result ≡ (if nat_lt 1024 (below.structures * width) || nat_lt 1024 (below.places * width) then None else fits (below.structures * width) (below.places * width)) }
 {

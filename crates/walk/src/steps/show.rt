@@ -3,7 +3,7 @@
 ghost use Rattle.std.specs.Prelude.{◌≡◌, List, length};
 ghost use Rattle.hierarchy.specs.Flat.{last_node};
 ghost use Rattle.hierarchy.specs.Meaning.{Meaning};
-ghost use Rattle.walk.specs.Shown.{boxes_of, box_in, mark_of, structure_behind_lem, outer_frames};
+ghost use Rattle.walk.specs.Shown.{boxes_of, box_places, box_in, mark_of, structure_behind_lem, outer_frames};
 ghost use Rattle.walk.specs.Steps.{state_shown};
 
 use crate::frame::Frame;
@@ -26,12 +26,20 @@ fn structure_behind<B: Hierarchy>(h: &B, frames: &[Frame]) -> usize
 }
 
 impl Walk {
-    // The frames in which the walk's outer levels are: each stands at a box of the shown state, the outermost first.
-    pub fn outer<'a>(&self, frames: &'a [Frame]) -> &'a [Frame]
+    // The frames in which the walk's outer levels are, the outermost first.
+    fn levels<'a>(&self, frames: &'a [Frame]) -> &'a [Frame]
         ensures { result.now ≡ outer_frames self.now frames.now }
     {
         let depth = self.stand.map_or(0, |stand| stand.depth);
         frames.get(..depth).unwrap_or(frames)
+    }
+
+    // The same, as the boxes of the shown state: each frame stands at one.
+    pub fn outer<'a>(&self, frames: &'a [Frame]) -> &'a [Frame]
+        ensures outer { result.now ≡ outer_frames self.now frames.now }
+        ensures boxes { (m : Meaning) → boxes_of (state_shown m self.now frames.now) ≡ box_places result.now }
+    {
+        self.levels(frames)
     }
 
     // How many boxes the shown state has.

@@ -10,14 +10,14 @@ pub push_number-requires : goal.push_number-requires
 push_number-requires c =
     let fs = c.outer-frame-items.result.now in
     let i = c.loop-frame.frame-index in
-    let whole = subst (λ os. Room 2048 c.args.text.now.bytes (dotted os)) (sym c.outer-frame-items.ensures) c.requires in
+    let whole = subst (λ os. Room 2048 c.args.text.now.bytes (dotted os)) (sym c.outer-frame-items.ensures.outer) c.requires in
     (omega arith, room_first (decimal (get_or fs i blank_frame).place) (46 ∷ []) (box_room fs i c.loop-frame-test.true whole c.loop-frame.invariant))
 
 pub push_str-requires : goal.push_str-requires
 push_str-requires c =
     let fs = c.outer-frame-items.result.now in
     let i = c.loop-frame.frame-index in
-    let whole = subst (λ os. Room 2048 c.args.text.now.bytes (dotted os)) (sym c.outer-frame-items.ensures) c.requires in
+    let whole = subst (λ os. Room 2048 c.args.text.now.bytes (dotted os)) (sym c.outer-frame-items.ensures.outer) c.requires in
     (omega arith, (room_rest (decimal (get_or fs i blank_frame).place) (46 ∷ []) (box_room fs i c.loop-frame-test.true whole c.loop-frame.invariant) c.push_number.ensures).fits)
 
 pub loop-frame-preserved : goal.loop-frame-preserved

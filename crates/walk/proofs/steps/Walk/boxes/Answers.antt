@@ -7,4 +7,4 @@ pub returns : goal.returns
 returns c m =
     let w = c.args.self.now in
     let fs = c.args.frames.now in
-    ap length c.outer.ensures ∙ sym (ap length (shown_boxes m w fs) ∙ length_places (outer_frames w fs))
+    ap length c.outer.ensures.outer ∙ sym (ap length (shown_boxes m w fs) ∙ length_places (outer_frames w fs))

@@ -10,4 +10,4 @@ returns g c =
     let fs = c.args.frames.now in
     ap (λ l. l.mark) c.look.ensures ∙
     mark_there m w fs c.structure_behind-structure.result c.node.result
-    (c.structure_behind-structure.ensures ∙ ap (structure_behind_lem m 0) c.outer.ensures) (c.node.ensures fs)
+    (c.structure_behind-structure.ensures ∙ ap (structure_behind_lem m 0) c.outer.ensures.outer) (c.node.ensures fs)
