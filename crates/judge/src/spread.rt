@@ -205,7 +205,7 @@ impl<'a, B: Hierarchy> Judged<'a, B> {
         ensures orderly { Orderly (B.Hierarchy.meaning self.now.h.now) site (look guide.new site.places) }
         ensures done { NothingOpen (look guide.new site.places) site }
     {
-        // its own copy stays in registers, where what is lent is read again after each write of the guide
+        // a copy of its own, which can stay in registers; what is lent is read again after each write of the guide
         let Judged {
             h,
             structures,

@@ -34,7 +34,7 @@ impl Walk {
         frames.get(..depth).unwrap_or(frames)
     }
 
-    // The same, as the boxes of the shown state: each frame stands at one.
+    // The frames that stand at the boxes of the shown state, the outermost first.
     pub fn outer<'a>(&self, frames: &'a [Frame]) -> &'a [Frame]
         ensures outer { result.now ≡ outer_frames self.now frames.now }
         ensures boxes { (m : Meaning) → boxes_of (state_shown m self.now frames.now) ≡ box_places result.now }

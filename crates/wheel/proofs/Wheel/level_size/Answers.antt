@@ -1,7 +1,6 @@
 -- Below the levels the sizes that count are the first of the array; beyond them there are none.
-use Rattle.std.proofs.Common.{◌≡◌, take, sym, arith}
+use Rattle.std.proofs.Common.{take, sym, arith}
 use Rattle.std.proofs.lemmas.List.{get_or-take, get_or_past, length-take-le}
-use Rattle.wheel.specs.Meaning.{size_of}
 use Rattle.wheel.specs.Made.{sizes_of}
 use Rattle.wheel.proofs.Bounds.{size_small}
 use Rattle.wheel.proofs.Wheel.level_size.Goals as goal
