@@ -71,8 +71,8 @@ pub enum Lane {
     Up,
 }
 
-// The record at the place of a row; none past the end of memory. The memory from the row's start on is looked up first, so
-// that a loop over places can do so once, and then asks of each place only whether there is a record more.
+// The record at the place of a row; none past the end of memory. The memory from the row's start on is looked up first,
+// so that a loop over places can do so once, and then asks of each place only whether there is a record more.
 // The lent memory is one slice, and says nowhere how long its rows are: so `places` goes beside it.
 fn record_at(guide: &[GuideRecord], places: usize, row: usize, place: usize) -> Option<&GuideRecord>
     ensures { MatchOption result (slice_index_or guide.now (row * places + place) blank_record_lem ≡ blank_record_lem) (λ r. r.now ≡ slice_index_or guide.now (row * places + place) blank_record_lem) }

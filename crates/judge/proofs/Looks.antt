@@ -4,6 +4,7 @@ use Rattle.std.proofs.Common.{◌≡◌, ℕ, ◌+◌, ◌*◌, ◌/◌, ◌%◌
 use mathlib.Core.Path.{fun_ext}
 use Rattle.std.proofs.lemmas.Bool.{lt-ltb, cases_eq, le-ltb, cases_lt, both_ways}
 use Rattle.std.proofs.lemmas.Nat.{div-mul-add, mod-mul-add, mul-le}
+use Rattle.hierarchy.specs.Meaning.{Meaning, Lawful, box}
 use Rattle.guide.specs.declared.Lane.{Lane}
 use Rattle.guide.specs.declared.Entry.{Entry}
 use Rattle.guide.specs.declared.GuideRecord.{GuideRecord}
@@ -63,6 +64,10 @@ module _ (g : List GuideRecord) (P : ℕ) (c : Lane) (r u n : ℕ) (l : Entry) (
 
 pub stands_less : (g : List GuideRecord) (P r S : ℕ) → r ≤ S → Stands g P S → Stands g P r
 stands_less g P r S h k = omega (arith, mul-le r P S P h (omega arith))
+
+-- the row of the structure that a box names stands in memory, where all structures' rows do
+pub stands_inner : (m : Meaning) → Lawful m → (i p j : ℕ) → m.place i p ≡ box j → (S : ℕ) → S ≡ m.structures → (g : List GuideRecord) (P : ℕ) → Stands g P S → Stands g P j
+stands_inner m L i p j e S is g P k = stands_less g P j S (omega (arith, (L.inner i p j e).1, is)) k
 
 pub look_out : (g : List GuideRecord) (P : ℕ) (c : Lane) (r u : ℕ) → P ≤ u → look g P c r u ≡ blank
 unfolding look

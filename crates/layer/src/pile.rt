@@ -10,10 +10,10 @@ use crate::spread::Spread;
 use hierarchy::{Hierarchy, Look, Place, Size};
 use monitor::Monitor;
 
-// Exits, edges and leaves are asked at the bottom before the size is, so that a no there costs one question. Any other answer
-// asks the size once. A place, an entry or an exit over k monitors costs k steps and one question more at the bottom, a look
-// at most twice that. An edge or a leave that the bottom has, in a pile that fits, is read by one monitor after the other up
-// to the first that refuses it, which costs about k * k steps and at most 3 * k + 1 questions at the bottom.
+// Exits, edges and leaves are asked at the bottom before the size is, so that a no there costs one question. Any other
+// answer asks the size once. A place, an entry or an exit over k monitors costs k steps and one question more at the
+// bottom, a look at most twice that. An edge or a leave that the bottom has, in a pile that fits, is read by one monitor
+// after the other up to the first that refuses it, which costs about k * k steps and at most 3 * k + 1 questions there.
 #[derive_where(Clone, Copy)]
 pub struct Pile<'a, B> {
     base: &'a B,

@@ -35,7 +35,8 @@ impl Wheel {
         ensures size { result ≡ size_of (sizes_of self.now) k }
         ensures small { result ≤ 1022 }
     {
-        // by a test and an index: most answers read here, and `get` of a slice makes loops over places up to three times as slow
+        // by a test and an index: most answers read here, and `get` of a slice makes loops over places up to three times
+        // as slow
         if k < self.levels { self.sizes[k] } else { 0 }
     }
 

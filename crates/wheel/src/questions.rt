@@ -63,7 +63,8 @@ impl Hierarchy for Wheel {
     }
 }
 
-// The tests that the answers are made of.
+// The tests that the answers are made of. They are joined by `&` and `|`: each side is cheap and may always be asked, and
+// a loop over places then has fewer branches.
 #[tactic(auto, using(std::proofs::lemmas::Bool::Decides::nat_tests), unfolding(crate::specs::Meaning::is_entry_lem, crate::specs::Meaning::is_item_lem, crate::specs::Meaning::is_end_lem, crate::specs::Meaning::is_box_lem))]
 impl Wheel {
     fn is_entry(&self, i: usize, p: usize) -> bool

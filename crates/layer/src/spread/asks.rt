@@ -84,8 +84,9 @@ impl<'a, B: Hierarchy> Spread<'a, B> {
         Look { letter, mark }
     }
 
-    // Whether there is such an edge, and the pile that these monitors are part of is not too large. Its size is asked where
-    // the base has said yes, and no monitor yet: so a no of the base costs one question there, and too large a pile two.
+    // Whether there is such an edge, and `whole`, the pile that these monitors are part of, is not too large. Its size is
+    // asked where the base has said yes, and no monitor yet: so a no of the base costs one question there, and too large
+    // a pile two.
     pub(crate) fn has_edge(&self, whole: &Spread<'a, B>, i: usize, p: usize, w: usize) -> bool
         ensures { result ≡ ((spread_of B.Hierarchy.meaning self.now).edge i p w && not (pile_of B.Hierarchy.meaning whole.now).large) }
     {

@@ -1,17 +1,14 @@
 -- A box is left by each exit that it can be passed by.
 use Rattle.std.proofs.Common.{arith}
 use Rattle.judge.proofs.Expanding.{exits_no, exits_yes, exits_all}
-use Rattle.judge.proofs.Looks.{stands_less}
+use Rattle.judge.proofs.Looks.{stands_inner}
 use Rattle.judge.proofs.judged.Judged.expand_box.Goals as goal
 use Rattle.judge.proofs.judged.Judged.expand_box.Goals.{then-passed, else-passed}
 
 pub passed-requires : goal.passed-requires
 passed-requires g c =
-    let m = g.B.Hierarchy.meaning c.args.self.now.h.now in
-    let L = g.B.Hierarchy.lawful c.args.self.now.h.now in
-    let S = c.args.self.now.structures in
-    let below = (L.inner _ _ _ c.requires.named).1 in
-    record { stands = stands_less _ _ c.args.inner S (omega (arith, below, c.args.self.now.structures_are)) (omega (arith, c.requires.at.stands)); inside = omega arith }
+    let x = c.args.self.now in
+    record { stands = stands_inner (g.B.Hierarchy.meaning x.h.now) (g.B.Hierarchy.lawful x.h.now) _ _ _ c.requires.named x.structures x.structures_are _ _ (omega (arith, c.requires.at.stands)); inside = omega arith }
 
 pub loop-by-preserved : goal.loop-by-preserved
 loop-by-preserved g c =

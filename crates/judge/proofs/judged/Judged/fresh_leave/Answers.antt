@@ -2,16 +2,13 @@
 use Rattle.std.proofs.Common.{arith}
 use Rattle.guide.specs.Layout.{look}
 use Rattle.judge.proofs.Fresh.{spent_some, spent_all}
-use Rattle.judge.proofs.Looks.{stands_less}
+use Rattle.judge.proofs.Looks.{stands_inner}
 use Rattle.judge.proofs.judged.Judged.fresh_leave.Goals as goal
 
 pub passed-requires : goal.passed-requires
 passed-requires g c =
-    let m = g.B.Hierarchy.meaning c.args.self.now.h.now in
-    let L = g.B.Hierarchy.lawful c.args.self.now.h.now in
-    let S = c.args.self.now.structures in
-    let below = (L.inner _ _ _ c.requires.named).1 in
-    record { stands = stands_less _ _ c.args.inner S (omega (arith, below, c.args.self.now.structures_are)) c.requires.at.stands; inside = omega arith }
+    let x = c.args.self.now in
+    record { stands = stands_inner (g.B.Hierarchy.meaning x.h.now) (g.B.Hierarchy.lawful x.h.now) _ _ _ c.requires.named x.structures x.structures_are _ _ c.requires.at.stands; inside = omega arith }
 
 pub returns-in-loop-by : goal.returns-in-loop-by
 returns-in-loop-by g c =
